@@ -1,0 +1,3 @@
+-- Laws of what a call tells, and examples.
+pub mod Chain
+pub mod Examples
