@@ -1,0 +1,166 @@
+-- Laws of the vocabulary of lists: tables, searches, stretches, and outputs that a loop writes from the front.
+use mathlib.Core.Path.{_≡_, refl, sym, ap, ap₂, _∙_, subst}
+use mathlib.Core.Bool.{Bool, true, false, cond, _&&_, false≢true}
+use mathlib.Core.List.{List, [], _∷_, _++_}
+use Prim.Native.Nat.{ℕ, zero, suc, _+_, _-_, _*_, _≤_, _<_}
+use native.Mathlib.Nat.{not-suc-le-zero, le-refl, le-trans, le-of-eq, suc-mul, mul-le-mul-right}
+use native.Mathlib.Numerals.{add-one}
+use native.Mathlib.Decide.{ℕ-discrete}
+use native.Mathlib.Omega.{arith}
+use lib.ListN.{length, getD, take, drop, set, length-append, length-take, length-drop, length-set, take-append-drop, List·getD-append}
+use lib.Seq.{take-at, drop-at, drop-cons, set-at, append-snoc, getD-at, ext-getD}
+use Rattle.algebra.specs.Lists.{tab, allBelow, firstFrom, stretch, over}
+
+-- two lists of n are equal by their entries
+pub same-list : (n : ℕ) (s t : List ℕ) → length s ≡ n → length t ≡ n → ((j : ℕ) → j < n → getD s j 0 ≡ getD t j 0) → s ≡ t
+same-list n s t p q h = ext-getD 0 s t (p ∙ sym q) (λ i l. h i (subst (λ (z : ℕ). i < z) p l))
+
+-- ---- tables
+
+pub length-tab : (n : ℕ) (f : ℕ → ℕ) → length (tab n f) ≡ n
+unfolding tab
+length-tab zero f = refl
+length-tab (suc n) f = let a = length-tab n f in omega (arith, length-append (tab n f) (f n ∷ []))
+
+pub getD-tab : (n : ℕ) (f : ℕ → ℕ) (j : ℕ) → j < n → getD (tab n f) j 0 ≡ f j
+unfolding tab
+getD-tab zero f j h = absurd (not-suc-le-zero h)
+getD-tab (suc n) f j h = step (ℕ-discrete j n) (getD-tab n f j)
+  where
+    step : Dec (j ≡ n) → (j < n → getD (tab n f) j 0 ≡ f j) → getD (tab n f ++ (f n ∷ [])) j 0 ≡ f j
+    step (yes e) ih = getD-at (tab n f) (f n) [] 0 j (length-tab n f ∙ sym e) ∙ ap f (sym e)
+    step (no q) ih =
+        let l : j < n = omega arith in
+        List·getD-append (tab n f) (f n ∷ []) 0 j (rw (length-tab n f) l) ∙ ih l
+
+-- a list of n is the table of its entries
+pub tab-of : (n : ℕ) (l : List ℕ) (f : ℕ → ℕ) → length l ≡ n → ((j : ℕ) → j < n → getD l j 0 ≡ f j) → tab n f ≡ l
+tab-of n l f e h = same-list n (tab n f) l (length-tab n f) e (λ j k. getD-tab n f j k ∙ sym (h j k))
+
+-- ---- tests of every place
+
+pub &&-left : (a b : Bool) → (a && b) ≡ true → a ≡ true
+&&-left true b e = refl
+&&-left false b e = e
+
+pub &&-right : (a b : Bool) → (a && b) ≡ true → b ≡ true
+&&-right true b e = e
+&&-right false b e = absurd (false≢true e)
+
+pub allBelow-at : (n : ℕ) (f : ℕ → Bool) → allBelow n f ≡ true → (k : ℕ) → k < n → f k ≡ true
+unfolding allBelow
+allBelow-at zero f e k l = absurd (not-suc-le-zero l)
+allBelow-at (suc n) f e k l = step (ℕ-discrete k n) (allBelow-at n f (&&-right (f n) (allBelow n f) e) k)
+  where
+    step : Dec (k ≡ n) → (k < n → f k ≡ true) → f k ≡ true
+    step (yes q) ih = ap f q ∙ &&-left (f n) (allBelow n f) e
+    step (no q) ih = ih (omega arith)
+
+pub allBelow-all : (n : ℕ) (f : ℕ → Bool) → ((k : ℕ) → k < n → f k ≡ true) → allBelow n f ≡ true
+unfolding allBelow
+allBelow-all zero f h = refl
+allBelow-all (suc n) f h = rw (h n (le-refl (suc n))) (allBelow-all n f (λ k l. h k (omega arith)))
+
+-- ---- searches, as a loop goes through them: k is the place looked at, of n
+
+module _ (f : ℕ → Bool) (n k : ℕ) where
+  pub first-hit : k < n → f k ≡ true → firstFrom (n - k) k f ≡ k
+  unfolding firstFrom
+  first-hit l e = let s : n - k ≡ suc (n - (k + 1)) = omega arith in rw (s, e)
+
+  pub first-skip : k < n → f k ≡ false → firstFrom (n - k) k f ≡ firstFrom (n - (k + 1)) (k + 1) f
+  unfolding firstFrom
+  first-skip l e = let s : n - k ≡ suc (n - (k + 1)) = omega arith in rw (s, e, add-one)
+
+  pub first-end : n ≤ k → firstFrom (n - k) k f ≡ k
+  unfolding firstFrom
+  first-end l = let s : n - k ≡ 0 = omega arith in rw s
+
+-- what the place found says: f holds at none before it, and holds at it where it is below the end
+pub record Found (f : ℕ → Bool) (from end at : ℕ) : Type 0 where
+  pub most : at ≤ end
+  pub before : (k : ℕ) → from ≤ k → k < at → f k ≡ false
+  pub here : at < end → f at ≡ true
+
+pub found : (f : ℕ → Bool) (left k : ℕ) → Found f k (k + left) (firstFrom left k f)
+unfolding firstFrom
+found f zero k = record { most = omega arith; before = λ j h l. absurd (omega arith); here = λ l. absurd (omega arith) }
+found f (suc left) k = step (f k) refl (found f left (suc k))
+  where
+    step : (b : Bool) → f k ≡ b → Found f (suc k) (suc k + left) (firstFrom left (suc k) f)
+        → Found f k (k + suc left) (cond b k (firstFrom left (suc k) f))
+    step true e r = record { most = omega arith; before = λ j h l. absurd (omega arith); here = λ l. e }
+    step false e r =
+        let m = r .most in
+        record {
+          most = omega arith;
+          before = λ j h l. at j h l (ℕ-discrete j k);
+          here = λ l. r .here (omega arith);
+        }
+      where
+        at : (j : ℕ) → k ≤ j → j < firstFrom left (suc k) f → Dec (j ≡ k) → f j ≡ false
+        at j h l (yes q) = ap f q ∙ e
+        at j h l (no q) = r .before j (omega arith) l
+
+-- ---- stretches
+
+pub length-stretch : (size k : ℕ) (s : List ℕ) → k * size + size ≤ length s → length (stretch size k s) ≡ size
+unfolding stretch
+length-stretch size k s h = simp (length-take, length-drop) (omega arith)
+
+-- as the code cuts it
+pub part-stretch : (size k : ℕ) (s : List ℕ) → take (k * size + size - k * size) (drop (k * size) s) ≡ stretch size k s
+unfolding stretch
+part-stretch size k s = let e : k * size + size - k * size ≡ size = omega arith in rw e
+
+-- the stretch k of m fits in
+pub stretch-fits : (size k m : ℕ) → k < m → k * size + size ≤ m * size
+stretch-fits size k m h = le-trans (le-of-eq (sym (suc-mul k size))) (mul-le-mul-right size h)
+
+-- ---- outputs
+
+pub length-over : (l d : List ℕ) → length l ≤ length d → length (over l d) ≡ length d
+unfolding over
+length-over l d h = simp (length-append, length-drop) (omega arith)
+
+-- what a callee wrote over the front of a room y, lent on as the room's first n
+pub front : (l d y : List ℕ) (n : ℕ) → length l ≡ n → y ≡ over l d → take n y ≡ l
+unfolding over
+front l d y n e h = ap (take n) h ∙ take-at l (drop (length l) d) n e
+
+-- an output is known by its front and its rest
+pub over-parts : (l d y : List ℕ) (n : ℕ) → length l ≡ n → take n y ≡ l → drop n y ≡ drop n d → y ≡ over l d
+unfolding over
+over-parts l d y n e t r =
+    sym (take-append-drop n y) ∙ ap₂ (λ (a b : List ℕ). a ++ b) t (r ∙ ap (λ (k : ℕ). drop k d) (sym e))
+
+-- one more entry written behind those in front
+pub over-more : (l d : List ℕ) (j x : ℕ) → length l ≡ j → j < length d → set (over l d) j x ≡ over (l ++ (x ∷ [])) d
+unfolding over
+over-more l d j x e h =
+    let n : j + 1 ≡ length (l ++ (x ∷ [])) = omega (arith, length-append l (x ∷ [])) in
+    ap (λ (k : ℕ). set (l ++ drop k d) j x) e
+    ∙ (rw (drop-cons d j 0 h, set-at l (getD d j 0) (drop (suc j) d) x j e) (sym (append-snoc l x (drop (suc j) d))))
+    ∙ ap (λ (k : ℕ). (l ++ (x ∷ [])) ++ drop k d) (sym (add-one j) ∙ n)
+
+-- ---- a loop that writes a table over the front of d: what out is after j turns
+
+pub record Tabulated (f : ℕ → ℕ) (d out : List ℕ) (j : ℕ) : Type 0 where
+  pub size : length out ≡ length d
+  pub now : out ≡ over (tab j f) d
+
+pub tabulated-none : (f : ℕ → ℕ) (d : List ℕ) → Tabulated f d d 0
+unfolding over tab
+tabulated-none f d = record { size = refl; now = refl }
+
+pub tabulated-more : (f : ℕ → ℕ) (d out : List ℕ) (j x : ℕ) → Tabulated f d out j → j < length d → x ≡ f j → Tabulated f d (set out j x) (j + 1)
+unfolding tab
+tabulated-more f d out j x t l e =
+    record {
+      size = simp length-set (t .size);
+      now = ap (λ (z : List ℕ). set z j x) (t .now) ∙ over-more (tab j f) d j x (length-tab j f) l ∙ rw (add-one, e);
+    }
+
+-- after the last turn the table is a list
+pub tabulated-all : (f : ℕ → ℕ) (d out : List ℕ) (j n : ℕ) (l : List ℕ) → Tabulated f d out j → j ≡ n → tab n f ≡ l → out ≡ over l d
+tabulated-all f d out j n l t e q = t .now ∙ ap (λ (z : List ℕ). over z d) (ap (λ (k : ℕ). tab k f) e ∙ q)

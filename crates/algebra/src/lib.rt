@@ -1,0 +1,12 @@
+// Residues modulo 251, vectors, permutations, the matrix [A' | I], and drawing from lent bytes.
+// What is written goes over the front of the output, whose rest stays.
+pub mod draw;
+pub mod matrix;
+pub mod permutation;
+pub mod residue;
+
+// The prime p of document 01.
+pub const MODULUS: u8 = 251;
+
+// The most places that n allows.
+pub const MOST: usize = 64;
