@@ -15,6 +15,7 @@ use Rattle.algebra.specs.declared.draw.Used.the-variants.{To, RanOut as 
 use Rattle.algebra.specs.Lists.{over}
 use Rattle.algebra.specs.Permutations.{IsPerm, identity}
 use Rattle.algebra.specs.Drawings.{drawLeft, drawBelow, Drawing, drew, ranOut, with, largestMultiple, exchange, shuffle, drawPermutation, usedBy, drawnOver, Enough}
+use Rattle.algebra.proofs.Lists.{front}
 use Rattle.algebra.proofs.Permutations.{Stands, stands, from-places, identity-perm}
 
 -- ---- a byte below the limit: a turn of the loop at the place i
@@ -187,3 +188,29 @@ module _ (n : ℕ) (random : List ℕ) (at : ℕ) (d out : List ℕ) (p i : ℕ)
 
   pub shuffling-done : i ≤ 1 → shuffle (n - 1) (take n d) random at ≡ drew (w .list) p
   shuffling-done h = sym (w .rest) ∙ shuffle-done (w .list) random p i h
+
+-- ---- the whole drawing: the identity is written first
+
+pub shuffle-identity : (n : ℕ) (random : List ℕ) (at : ℕ) (d out : List ℕ) → out ≡ over (identity n) d
+    → shuffle (n - 1) (take n out) random at ≡ drawPermutation n random at
+unfolding drawPermutation
+shuffle-identity n random at d out e =
+    ap (λ (s : List ℕ). shuffle (n - 1) s random at) (front (identity n) d out n (identity-perm n .len) e)
+
+over-over : (s t d : List ℕ) → length s ≡ length t → over s (over t d) ≡ over s d
+unfolding over
+over-over s t d e = ap (λ (z : List ℕ). s ++ z) (drop-at t (drop (length t) d) (length s) (sym e) ∙ ap (λ (k : ℕ). drop k d) (sym e))
+
+pub drawn-over-identity : (n : ℕ) (m : Drawing) (d : List ℕ) → Permutes n m → Enough m → drawnOver m (over (identity n) d) ≡ drawnOver m d
+drawn-over-identity n (drew s at) d h e = over-over s (identity n) d (h .len ∙ sym (identity-perm n .len))
+drawn-over-identity n ranOut d h e = absurd e
+
+-- ---- what the measured answer says of the drawing
+
+pub enough-of : (m : Drawing) (q : ℕ) → To q ≡ usedBy m → Enough m
+enough-of (drew s at) q e = tt
+enough-of ranOut q e = let z : _≡_ {A = ℕ} 0 1 = cc in absurd (omega arith)
+
+pub untouched : (m : Drawing) (d : List ℕ) → NoneLeft ≡ usedBy m → d ≡ drawnOver m d
+untouched (drew s at) d e = let z : _≡_ {A = ℕ} 0 1 = cc in absurd (omega arith)
+untouched ranOut d e = refl

@@ -1,45 +1,43 @@
+-- `write_identity` meets its contract: the identity is the table of its places.
+use mathlib.Core.Path.{refl}
+use Prim.Native.Nat.{ℕ, _-_, _≤_}
+use native.Mathlib.Omega.{arith}
+use borrow.Author.Needs.{needs}
+use Rattle.algebra.specs.Permutations.{identity}
+use Rattle.algebra.proofs.Lists.{Tabulated, tabulated-none, tabulated-more, tabulated-all}
 use Rattle.algebra.proofs.draw.write_identity.Statement.{statement}
 use Rattle.algebra.proofs.draw.write_identity.Tie as tie
-use Rattle.algebra.proofs.draw.write_identity.Reads as reads
-use Rattle.algebra.proofs.draw.write_identity.Lts as lts
 
 abbrev Inv-loop : tie.InvT-loop
-Inv-loop n out₀ j₀ out j = ?
+Inv-loop n out₀ j₀ out j = (j ≤ n) × Tabulated (λ (k : ℕ). k) out₀ out j
 
 abbrev μ-loop : tie.MeasureT-loop
-μ-loop n out₀ j₀ out j = ?
+μ-loop n out₀ j₀ out j = n - j
 
--- src/draw.rt:74:5
 loop-holds : tie.Need-loop-holds Inv-loop μ-loop
-loop-holds c = ?
+loop-holds c = (search needs, tabulated-none _ _)
 
--- src/draw.rt:75:18
 cast-out : tie.Need-cast-out Inv-loop μ-loop
-cast-out c = ?
+cast-out c = search needs
 
--- src/draw.rt:75:9
 slice-write-out : tie.Need-slice-write-out Inv-loop μ-loop
-slice-write-out c = ?
+slice-write-out c = search needs
 
--- src/draw.rt:76:9
 add-j : tie.Need-add-j Inv-loop μ-loop
-add-j c = ?
+add-j c = search needs
 
--- src/draw.rt:74:5
 loop-less : tie.Need-loop-less Inv-loop μ-loop
-loop-less c = ?
+loop-less c = search needs
 
--- src/draw.rt:74:5
 loop-again : tie.Need-loop-again Inv-loop μ-loop
-loop-again c = ?
+loop-again c = (search needs, tabulated-more _ _ _ _ _ (c .before .loop .inv .1) (omega arith) refl)
 
--- src/draw.rt:69:1
 same-length : tie.Need-same-length Inv-loop μ-loop
-same-length c = ?
+same-length c = search needs
 
--- src/draw.rt:69:1
 returns : tie.Need-returns Inv-loop μ-loop
-returns c = ?
+unfolding identity
+returns c = tabulated-all _ _ _ _ _ _ (c .before .loop .inv .1) (omega arith) refl
 
 pub write-identity-spec : {M : Type 1} → statement M
 write-identity-spec =

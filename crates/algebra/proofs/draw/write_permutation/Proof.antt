@@ -1,26 +1,39 @@
+-- `write_permutation` meets its contract: a shuffle of the identity is the drawing.
+use mathlib.Core.Path.{sym, ap, _∙_, subst}
+use native.Mathlib.Omega.{arith}
 use borrow.Author.Needs.{needs}
+use Rattle.algebra.specs.Drawings.{Drawing, drawPermutation, usedBy, drawnOver, Enough}
+use Rattle.algebra.proofs.Drawings.{drawn-perm, shuffle-identity, drawn-over-identity}
 use Rattle.algebra.proofs.draw.write_permutation.Statement.{statement}
 use Rattle.algebra.proofs.draw.write_permutation.Tie as tie
-use Rattle.algebra.proofs.draw.write_permutation.Reads as reads
-use Rattle.algebra.proofs.draw.write_permutation.Lts as lts
-use Rattle.algebra.proofs.draw.shuffle_front.Reads as shuffle-front-reads
-use Rattle.algebra.proofs.draw.write_identity.Reads as write-identity-reads
 
--- src/draw.rt:111:5
 write-identity-requires : tie.Need-write-identity-requires
 write-identity-requires c κs = search needs
 
--- src/draw.rt:112:5
 shuffle-front-requires : tie.Need-shuffle-front-requires
-shuffle-front-requires c κs = ?
+shuffle-front-requires c κs =
+    let g = c .before .before .before .before .before .before .before in
+    let w = c .before .before .before .write-identity in (
+      subst Enough (sym (shuffle-identity _ _ _ _ _ (w .ensures))) (g .pre .0),
+      omega arith,
+      omega (arith, w .kept),
+    )
 
--- src/draw.rt:107:1
 same-length : tie.Need-same-length
 same-length c = search needs
 
--- src/draw.rt:107:1
 returns : tie.Need-returns
-returns c = ?
+returns c =
+    let g = c .before .before .before .before .before .before .before .before .before .before in
+    let w = c .before .before .before .before .before .before .write-identity in
+    let s = c .before .before .shuffle-front .ensures in
+    let e = shuffle-identity (g .args .n) (g .args .random .now) (g .args .at) _ _ (w .ensures) in
+    let drawn = drawPermutation (g .args .n) (g .args .random .now) (g .args .at) in
+    let out = w .last .1 .0 in (
+      s .0 ∙ ap usedBy e,
+      s .1 ∙ ap (λ (m : Drawing). drawnOver m out) e ∙ ap (drawnOver drawn) (w .ensures)
+          ∙ drawn-over-identity _ drawn _ (drawn-perm _ _ _ (g .pre .1)) (g .pre .0),
+    )
 
 pub write-permutation-spec : {M : Type 1} → statement M
 write-permutation-spec =
