@@ -8,7 +8,7 @@ use native.Mathlib.Numerals.{add-one}
 use native.Mathlib.Decide.{ℕ-discrete}
 use native.Mathlib.Omega.{arith}
 use lib.ListN.{length, getD, take, drop, set, length-append, length-take, length-drop, length-set, take-append-drop, List·getD-append}
-use lib.Seq.{take-at, drop-at, drop-cons, set-at, append-snoc, getD-at, ext-getD}
+use lib.Seq.{take-at, drop-cons, set-at, append-snoc, getD-at, ext-getD}
 use Rattle.algebra.specs.Lists.{tab, allBelow, firstFrom, stretch, over}
 
 -- two lists of n are equal by their entries

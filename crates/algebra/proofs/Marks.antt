@@ -12,7 +12,7 @@ use lib.Dec.{eqb}
 use lib.ListN.{length, getD, take, drop, set, replicate, take-append-drop, getD-replicate}
 use lib.Seq.{take-all, take-suc, getD-set-same, getD-set-other}
 use Rattle.algebra.specs.Lists.{sumBelow, count}
-use Rattle.algebra.specs.Permutations.{isPerm, IsPerm}
+use Rattle.algebra.specs.Permutations.{longest, isPerm, IsPerm}
 use Rattle.algebra.proofs.Sums.{sum-none, sum-one, sum-add}
 use Rattle.algebra.proofs.Permutations.{below, isPerm→, isPerm←}
 
@@ -92,14 +92,14 @@ seen-before s i l b h =
 
 -- ---- the marks after i bytes
 pub record Marked (s : List ℕ) (i : ℕ) (seen : List Bool) : Type 0 where
-  pub mark : (k : ℕ) → k < 64 → count k (take i s) ≡ cond (getD seen k false) 1 0
+  pub mark : (k : ℕ) → k < longest → count k (take i s) ≡ cond (getD seen k false) 1 0
   pub place : (j : ℕ) → j < i → getD s j 0 < length s
 
-pub marked-none : (s : List ℕ) → Marked s 0 (replicate 64 false)
+pub marked-none : (s : List ℕ) → Marked s 0 (replicate longest false)
 unfolding count
 marked-none s =
     record {
-      mark = λ k l. sym (ap (λ (b : Bool). cond b 1 0) (getD-replicate 64 k false false l));
+      mark = λ k l. sym (ap (λ (b : Bool). cond b 1 0) (getD-replicate longest k false false l));
       place = λ j l. absurd (not-suc-le-zero l);
     }
 
@@ -108,7 +108,7 @@ pub marked-more : (s : List ℕ) (i : ℕ) (seen : List Bool) → Marked s i see
 marked-more s i seen inv h lo b off =
     record { mark = λ k l. count-take k s i h ∙ step k l (ℕ-discrete k (getD s i 0)); place = λ j l. at j l (ℕ-discrete j i) }
   where
-    step : (k : ℕ) → k < 64 → Dec (k ≡ getD s i 0)
+    step : (k : ℕ) → k < longest → Dec (k ≡ getD s i 0)
         → count k (take i s) + cond (eqb k (getD s i 0)) 1 0 ≡ cond (getD (set seen (getD s i 0) true) k false) 1 0
     step k l (yes e) = rw (inv .mark k l, e, off, eq-eqb (getD s i 0) (getD s i 0) refl, getD-set-same seen (getD s i 0) true false b)
     step k l (no q) = rw (inv .mark k l, ne-eqb k (getD s i 0) q, getD-set-other seen (getD s i 0) k true false q) (omega arith)
@@ -118,7 +118,7 @@ marked-more s i seen inv h lo b off =
     at j l (no q) = inv .place j (omega arith)
 
 -- each byte names a place, and none twice
-pub all-seen : (s : List ℕ) (i : ℕ) (seen : List Bool) → length s ≤ 64 → length s ≤ i → Marked s i seen → true ≡ isPerm (length s) s
+pub all-seen : (s : List ℕ) (i : ℕ) (seen : List Bool) → length s ≤ longest → length s ≤ i → Marked s i seen → true ≡ isPerm (length s) s
 all-seen s i seen h full inv =
     sym (isPerm← (length s) s (record { len = refl; once = all-one (length s) (λ (k : ℕ). count k s) once (sum-count (length s) s (λ j l. inv .place j (omega arith))) }))
   where

@@ -2,20 +2,20 @@
 use mathlib.Core.Path.{_≡_, refl, sym, ap, _∙_, subst}
 use mathlib.Core.Bool.{not, false≢true}
 use mathlib.Core.List.{List}
-use Prim.Native.Nat.{ℕ, _+_, _-_, _*_, _%_, _<_, _≤_}
+use Prim.Native.Nat.{ℕ, _+_, _-_, _*_, _%_, _<_}
 use native.Mathlib.Nat.{mul-add, mul-comm, mul-assoc, one-mul, zero-mul, mod-mod, mod-lt, zero-add}
 use native.Mathlib.Decide.{decLt}
 use native.Mathlib.Omega.{arith}
 use borrow.Author.Tests.{eqb-true, eq-eqb, ne-eqb, lt-ltb, le-ltb, not-false}
 use lib.Dec.{eqb}
 use lib.ListN.{length, getD, replicate, length-replicate, getD-replicate}
-use Rattle.algebra.specs.Lists.{tab, sumBelow, firstFrom, stretch}
+use Rattle.algebra.specs.Lists.{sumBelow, firstFrom}
 use Rattle.algebra.specs.Residues.{Residues, plusTimes, addScaled}
 use Rattle.algebra.specs.Permutations.{IsPerm, permute, unpermute}
 use Rattle.algebra.specs.Matrices.{rowTimes, rowOf, product, entry, productAt, nonzeroRow, keyFault, SystemFits}
 use Rattle.algebra.proofs.Lists.{same-list, length-tab, getD-tab, length-stretch, stretch-fits, Found, found}
 use Rattle.algebra.proofs.Sums.{sum-split, sum-one, sum-cong, sum-add, sum-mul, sum-mod, cong-add, cong-mul}
-use Rattle.algebra.proofs.Permutations.{reindex, getD-permute, length-permute, permute-unpermute, length-inverse}
+use Rattle.algebra.proofs.Permutations.{reindex, getD-permute, permute-unpermute}
 use Rattle.algebra.proofs.Vectors.{length-addScaled, getD-addScaled}
 
 -- ---- one row, of d entries in A', among m rows

@@ -2,7 +2,7 @@
 use mathlib.Core.Path.{_≡_, refl, sym, ap, _∙_}
 use mathlib.Core.List.{List, [], _∷_, zipWith}
 use Prim.Native.Nat.{ℕ, zero, suc, _+_, _-_, _*_, _%_, _<_, _≤_}
-use native.Mathlib.Nat.{not-suc-le-zero, le-of-suc-le-suc, mod-mod, mod-lt, mod-eq-of-lt, mod-self, zero-mod, zero-mul, add-mul, le-refl}
+use native.Mathlib.Nat.{not-suc-le-zero, le-of-suc-le-suc, mod-mod, mod-lt, mod-eq-of-lt, mod-self, zero-mod, zero-mul, add-mul}
 use native.Mathlib.Omega.{arith}
 use lib.ListN.{length, getD}
 use Rattle.algebra.specs.Lists.{tab}

@@ -6,7 +6,7 @@ use Prim.Native.Nat.{ℕ, _+_, _-_, _*_, _%_, _<_, _≤_}
 use lib.Dec.{eqb, ltb}
 use lib.ListN.{length, getD}
 use Rattle.algebra.specs.Lists.{tab, sumBelow, firstFrom, stretch}
-use Rattle.algebra.specs.Permutations.{permute}
+use Rattle.algebra.specs.Permutations.{longest, permute}
 
 -- row i of A X, from that row of A': the sum of A'[i][j]·X[j] over j below n - m, plus X[n - m + i]
 unfoldable pub rowTimes : ℕ → List ℕ → List ℕ → ℕ → ℕ
@@ -41,5 +41,5 @@ keyFault p a n m v π = firstFrom m 0 (nonzeroRow p a n m (permute v π))
 pub record SystemFits (a : List ℕ) (n m : ℕ) : Type 0 where
   pub some : 0 < m
   pub less : m < n
-  pub most : n ≤ 64
+  pub most : n ≤ longest
   pub entries : length a ≡ m * (n - m)

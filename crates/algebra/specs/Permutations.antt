@@ -7,6 +7,10 @@ use lib.Dec.{eqb}
 use lib.ListN.{length, getD}
 use Rattle.algebra.specs.Lists.{tab, allBelow, count}
 
+-- n is at most this
+abbrev pub longest : ℕ
+longest = 64
+
 -- n places, each of 0 to n - 1 once: as a test, and as a proposition
 unfoldable pub isPerm : ℕ → List ℕ → Bool
 isPerm n σ = eqb (length σ) n && allBelow n (λ (k : ℕ). eqb (count k σ) 1)

@@ -3,7 +3,7 @@ ghost use mathlib.Core.Path.{_≡_};
 ghost use Prim.Native.Nat.{_-_, _≤_, _<_};
 ghost use lib.ListN.{length, take};
 ghost use Rattle.algebra.specs.Lists.{over};
-ghost use Rattle.algebra.specs.Permutations.{identity};
+ghost use Rattle.algebra.specs.Permutations.{longest, identity};
 ghost use Rattle.algebra.specs.Drawings.{largestMultiple, drawBelow, shuffle, drawPermutation, usedBy, drawnOver, Enough};
 
 // What the drawing of a byte answers: the byte and the next place, or that the bytes ran out.
@@ -37,7 +37,7 @@ pub fn draw_below(random: &[u8], at: usize, limit: u32) -> Drawn
 
 // A byte from which each of 0 to k - 1 comes as remainder by k equally often.
 fn draw_for(random: &[u8], at: usize, k: usize) -> Drawn
-    requires { ⌜ (0 < k) × (k ≤ 64) ⌝ }
+    requires { ⌜ (0 < k) × (k ≤ longest) ⌝ }
     ensures { λ r. ⌜ r ≡ drawBelow (largestMultiple k) (now (random .entry)) at ⌝ }
 {
     let whole = k as u32;
@@ -46,7 +46,7 @@ fn draw_for(random: &[u8], at: usize, k: usize) -> Drawn
 
 // How far a permutation of n takes: nothing is written.
 pub fn measure_permutation(random: &[u8], at: usize, n: usize) -> Used
-    requires { ⌜ n ≤ 64 ⌝ }
+    requires { ⌜ n ≤ longest ⌝ }
     ensures { λ r. ⌜ r ≡ usedBy (drawPermutation n (now (random .entry)) at) ⌝ }
 {
     let mut p = at;
@@ -67,7 +67,7 @@ pub fn measure_permutation(random: &[u8], at: usize, n: usize) -> Used
 
 // Writes 0, 1, .., n - 1.
 fn write_identity(n: usize, out: &mut [u8])
-    requires { ⌜ (n ≤ 64) × (n ≤ length (now out)) ⌝ }
+    requires { ⌜ (n ≤ longest) × (n ≤ length (now out)) ⌝ }
     ensures { λ _. ⌜ now (out .exit) ≡ over (identity n) (now (out .entry)) ⌝ }
 {
     let mut j: usize = 0;
@@ -79,7 +79,7 @@ fn write_identity(n: usize, out: &mut [u8])
 
 // Shuffles the first n of out, for which the bytes suffice.
 fn shuffle_front(random: &[u8], at: usize, n: usize, out: &mut [u8]) -> usize
-    requires { ⌜ Enough (shuffle (n - 1) (take n (now out)) (now random) at) × (n ≤ 64) × (n ≤ length (now out)) ⌝ }
+    requires { ⌜ Enough (shuffle (n - 1) (take n (now out)) (now random) at) × (n ≤ longest) × (n ≤ length (now out)) ⌝ }
     ensures { λ r. ⌜ (Used.To r ≡ usedBy (shuffle (n - 1) (take n (now (out .entry))) (now (random .entry)) at)) × (now (out .exit) ≡ drawnOver (shuffle (n - 1) (take n (now (out .entry))) (now (random .entry)) at) (now (out .entry))) ⌝ }
 {
     let mut p = at;
@@ -105,7 +105,7 @@ fn shuffle_front(random: &[u8], at: usize, n: usize, out: &mut [u8]) -> usize
 
 // Writes a permutation of n, for which the bytes suffice: see measure_permutation.
 pub fn write_permutation(random: &[u8], at: usize, n: usize, out: &mut [u8]) -> usize
-    requires { ⌜ Enough (drawPermutation n (now random) at) × (0 < n) × (n ≤ 64) × (n ≤ length (now out)) ⌝ }
+    requires { ⌜ Enough (drawPermutation n (now random) at) × (0 < n) × (n ≤ longest) × (n ≤ length (now out)) ⌝ }
     ensures { λ r. ⌜ (Used.To r ≡ usedBy (drawPermutation n (now (random .entry)) at)) × (now (out .exit) ≡ drawnOver (drawPermutation n (now (random .entry)) at) (now (out .entry))) ⌝ }
 {
     write_identity(n, out);
@@ -114,7 +114,7 @@ pub fn write_permutation(random: &[u8], at: usize, n: usize, out: &mut [u8]) -> 
 
 // Draws a permutation of n into out, or leaves out as it was.
 pub fn draw_permutation(random: &[u8], at: usize, n: usize, out: &mut [u8]) -> Used
-    requires { ⌜ (0 < n) × (n ≤ 64) × (n ≤ length (now out)) ⌝ }
+    requires { ⌜ (0 < n) × (n ≤ longest) × (n ≤ length (now out)) ⌝ }
     ensures { λ r. ⌜ (r ≡ usedBy (drawPermutation n (now (random .entry)) at)) × (now (out .exit) ≡ drawnOver (drawPermutation n (now (random .entry)) at) (now (out .entry))) ⌝ }
 {
     if let Used::RanOut = measure_permutation(random, at, n) {

@@ -6,7 +6,7 @@ pub mod permutation;
 pub mod residue;
 
 // The prime p of document 01.
-pub const MODULUS: u8 = 251;
+pub const MODULUS: u32 = 251;
 
-// The most places that n allows.
-pub const MOST: usize = 64;
+// The most that n is.
+pub const LONGEST: usize = 64;

@@ -1,18 +1,18 @@
 // The matrix A = [A' | I]: m rows, n columns, a the entries of A' row by row.
+use crate::LONGEST;
 use crate::MODULUS;
-use crate::MOST;
 use crate::permutation::permute_into;
 ghost use mathlib.Core.Path.{_≡_};
 ghost use Prim.Native.Nat.{_+_, _*_, _≤_, _<_};
 ghost use lib.ListN.{length};
 ghost use Rattle.algebra.specs.Lists.{over, stretch, firstFrom};
 ghost use Rattle.algebra.specs.Residues.{modulus};
-ghost use Rattle.algebra.specs.Permutations.{IsPerm};
+ghost use Rattle.algebra.specs.Permutations.{longest, IsPerm};
 ghost use Rattle.algebra.specs.Matrices.{rowTimes, product, nonzeroRow, keyFault, SystemFits};
 
 // Row i of A X, from that row of A'. The sum of at most 64 products of bytes is reduced once.
 pub fn row_times(row: &[u8], x: &[u8], i: usize) -> u8
-    requires { ⌜ (length (now row) < 64) × (length (now row) + i < length (now x)) ⌝ }
+    requires { ⌜ (length (now row) < longest) × (length (now row) + i < length (now x)) ⌝ }
     ensures { λ r. ⌜ r ≡ rowTimes modulus (now (row .entry)) (now (x .entry)) i ⌝ }
 {
     let d = row.len();
@@ -23,12 +23,12 @@ pub fn row_times(row: &[u8], x: &[u8], i: usize) -> u8
         j += 1;
     }
     sum += x[d + i] as u32;
-    (sum % MODULUS as u32) as u8
+    (sum % MODULUS) as u8
 }
 
 // Row i of A X, where rows of A' have d entries: here alone stands where they lie.
 fn row_at(a: &[u8], d: usize, x: &[u8], i: usize) -> u8
-    requires { ⌜ (d < 64) × (i < 64) × (i * d + d ≤ length (now a)) × (d + i < length (now x)) ⌝ }
+    requires { ⌜ (d < longest) × (i < longest) × (i * d + d ≤ length (now a)) × (d + i < length (now x)) ⌝ }
     ensures { λ r. ⌜ r ≡ rowTimes modulus (stretch d i (now (a .entry))) (now (x .entry)) i ⌝ }
 {
     let start = i * d;
@@ -79,6 +79,6 @@ pub fn key_fault(a: &[u8], n: usize, m: usize, v: &[u8], pi: &[u8]) -> usize
     requires { ⌜ SystemFits (now a) n m × IsPerm (length (now pi)) (now pi) × (length (now pi) ≡ n) × (length (now v) ≡ n) ⌝ }
     ensures { λ r. ⌜ r ≡ keyFault modulus (now (a .entry)) n m (now (v .entry)) (now (pi .entry)) ⌝ }
 {
-    let mut room = [0u8; MOST];
+    let mut room = [0u8; LONGEST];
     key_fault_with(a, n, m, v, pi, &mut room)
 }

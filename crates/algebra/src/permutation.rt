@@ -1,18 +1,18 @@
 // Permutations, and what they do to vectors.
-use crate::MOST;
+use crate::LONGEST;
 ghost use mathlib.Core.Path.{_≡_};
 ghost use Prim.Native.Nat.{_≤_};
 ghost use lib.ListN.{length};
 ghost use Rattle.algebra.specs.Lists.{over};
-ghost use Rattle.algebra.specs.Permutations.{isPerm, IsPerm, permute, compose, unpermute};
+ghost use Rattle.algebra.specs.Permutations.{longest, isPerm, IsPerm, permute, compose, unpermute};
 
 // Whether s is a permutation of its own places.
 pub fn is_permutation(s: &[u8]) -> bool
-    requires { ⌜ length (now s) ≤ 64 ⌝ }
+    requires { ⌜ length (now s) ≤ longest ⌝ }
     ensures { λ r. ⌜ r ≡ isPerm (length (now (s .entry))) (now (s .entry)) ⌝ }
 {
     let n = s.len();
-    let mut seen = [false; MOST];
+    let mut seen = [false; LONGEST];
     let mut i: usize = 0;
     while i < n {
         let k = s[i] as usize;
@@ -42,7 +42,7 @@ pub fn permute_into(v: &[u8], theta: &[u8], out: &mut [u8])
 
 // Writes the product sigma tau, which sends j to sigma[tau[j]].
 pub fn compose_into(sigma: &[u8], tau: &[u8], out: &mut [u8])
-    requires { ⌜ IsPerm (length (now tau)) (now tau) × (length (now sigma) ≡ length (now tau)) × (length (now tau) ≤ length (now out)) ⌝ }
+    requires { ⌜ IsPerm (length (now sigma)) (now sigma) × IsPerm (length (now tau)) (now tau) × (length (now sigma) ≡ length (now tau)) × (length (now tau) ≤ length (now out)) ⌝ }
     ensures { λ _. ⌜ now (out .exit) ≡ over (compose (now (sigma .entry)) (now (tau .entry))) (now (out .entry)) ⌝ }
 {
     permute_into(sigma, tau, out);

@@ -6,19 +6,19 @@ ghost use lib.ListN.{length};
 ghost use Rattle.algebra.specs.Lists.{over};
 ghost use Rattle.algebra.specs.Residues.{modulus, negative, plusTimes, addScaled, subScaled};
 
-// -x.
+// -x, which is 0 where x is 0.
 pub fn negative(x: u8) -> u8
     requires { ⌜ x < modulus ⌝ }
     ensures { λ r. ⌜ r ≡ negative modulus x ⌝ }
 {
-    (MODULUS - x) % MODULUS
+    ((MODULUS - x as u32) % MODULUS) as u8
 }
 
 // r + c·v.
 fn plus_times(r: u8, c: u8, v: u8) -> u8
     ensures { λ z. ⌜ z ≡ plusTimes modulus c r v ⌝ }
 {
-    ((r as u32 + c as u32 * v as u32) % MODULUS as u32) as u8
+    ((r as u32 + c as u32 * v as u32) % MODULUS) as u8
 }
 
 // Writes R + c·V.

@@ -1,14 +1,14 @@
 -- Laws of what a call tells: an answer is fixed by what it means, and the first refusal of a chain.
 use mathlib.Core.Path.{_≡_, refl, sym, ap, _∙_}
 use mathlib.Core.Bool.{Bool, true, false}
-use mathlib.Core.List.{List, []}
+use mathlib.Core.List.{List}
 use mathlib.Core.Logic.{_⊎_, inl, inr}
 use Prim.Native.Nat.{ℕ}
 use native.Mathlib.Omega.{arith}
 use Rattle.refusals.specs.declared.Refusal.{Refusal}
 use Rattle.refusals.specs.declared.Checked.{Checked}
 use Rattle.refusals.specs.declared.Checked.the-variants.{Fine, Refused}
-use Rattle.refusals.specs.Told.{Told, done, refused, fine, told, means, first, demand}
+use Rattle.refusals.specs.Told.{Told, done, refused, told, means, first, demand}
 
 -- ---- an answer is fixed by what it means: the way back
 

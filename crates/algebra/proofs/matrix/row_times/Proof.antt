@@ -5,7 +5,7 @@ use native.Mathlib.Omega.{arith}
 use borrow.Author.Needs.{needs}
 use lib.ListN.{length, getD}
 use Rattle.algebra.specs.Lists.{sumBelow}
-use Rattle.algebra.specs.Matrices.{rowTimes, product}
+use Rattle.algebra.specs.Matrices.{rowTimes}
 use Rattle.algebra.specs.Residues.{modulus}
 use Rattle.algebra.proofs.Sums.{sum-next, byte-mul}
 use Rattle.algebra.proofs.matrix.row_times.Statement.{statement}
@@ -75,12 +75,6 @@ add-sum-3 c = omega (arith, c .shared-slice-known3 .given (length (c .before .be
 cast-result : tie.Need-cast-result Inv-loop μ-loop
 cast-result c = search needs
 
-rem-result : tie.Need-rem-result Inv-loop μ-loop
-rem-result c = search needs
-
-cast-result-2 : tie.Need-cast-result-2 Inv-loop μ-loop
-cast-result-2 c = search needs
-
 returns : tie.Need-returns Inv-loop μ-loop
 unfolding rowTimes
 returns c =
@@ -111,6 +105,4 @@ row-times-spec =
     cast-sum-3
     add-sum-3
     cast-result
-    rem-result
-    cast-result-2
     returns)

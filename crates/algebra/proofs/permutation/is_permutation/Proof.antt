@@ -5,12 +5,13 @@ use Prim.Native.Nat.{_-_, _≤_}
 use native.Mathlib.Omega.{arith}
 use borrow.Author.Needs.{needs}
 use lib.ListN.{length, length-set}
+use Rattle.algebra.specs.Permutations.{longest}
 use Rattle.algebra.proofs.Marks.{no-place, seen-before, Marked, marked-none, marked-more, all-seen}
 use Rattle.algebra.proofs.permutation.is_permutation.Statement.{statement}
 use Rattle.algebra.proofs.permutation.is_permutation.Tie as tie
 
 abbrev Inv-loop : tie.InvT-loop
-Inv-loop s n seen₀ i₀ seen i = (i ≤ length s) × (length seen ≡ 64) × Marked s i seen
+Inv-loop s n seen₀ i₀ seen i = (i ≤ length s) × (length seen ≡ longest) × Marked s i seen
 
 abbrev μ-loop : tie.MeasureT-loop
 μ-loop s n seen₀ i₀ seen i = length s - i

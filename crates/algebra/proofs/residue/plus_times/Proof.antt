@@ -14,15 +14,8 @@ add-result c = omega (arith, byte-mul (c .args .c) (c .args .v) (omega arith) (o
 cast-result : tie.Need-cast-result
 cast-result c = search needs
 
-rem-result : tie.Need-rem-result
-rem-result c = search needs
-
-cast-result-2 : tie.Need-cast-result-2
-cast-result-2 c = search needs
-
 returns : tie.Need-returns
 returns c = search needs
 
 pub plus-times-spec : {M : Type 1} → statement M
-plus-times-spec =
-    tie.close (tie.spec mul-result add-result cast-result rem-result cast-result-2 returns)
+plus-times-spec = tie.close (tie.spec mul-result add-result cast-result returns)
