@@ -119,10 +119,6 @@ stretch-fits size k m h = le-trans (le-of-eq (sym (suc-mul k size))) (mul-le-mul
 
 -- ---- outputs
 
-pub length-over : (l d : List ℕ) → length l ≤ length d → length (over l d) ≡ length d
-unfolding over
-length-over l d h = simp (length-append, length-drop) (omega arith)
-
 -- what a callee wrote over the front of a room y, lent on as the room's first n
 pub front : (l d y : List ℕ) (n : ℕ) → length l ≡ n → y ≡ over l d → take n y ≡ l
 unfolding over

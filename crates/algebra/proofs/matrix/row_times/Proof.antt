@@ -12,7 +12,7 @@ use Rattle.algebra.proofs.matrix.row_times.Statement.{statement}
 use Rattle.algebra.proofs.matrix.row_times.Tie as tie
 
 abbrev Inv-loop : tie.InvT-loop
-Inv-loop row x i d sum₀ j₀ sum j = (j ≤ length row) × (sum ≡ sumBelow j (λ (k : ℕ). getD row k 0 * getD x k 0)) × (sum ≤ 65025 * j)
+Inv-loop row x i d sum₀ j₀ sum j = (sum ≡ sumBelow j (λ (k : ℕ). getD row k 0 * getD x k 0)) × (sum ≤ 65025 * j) × (j ≤ length row)
 
 abbrev μ-loop : tie.MeasureT-loop
 μ-loop row x i d sum₀ j₀ sum j = length row - j
@@ -27,7 +27,7 @@ bound c =
 
 loop-holds : tie.Need-loop-holds Inv-loop μ-loop
 unfolding sumBelow
-loop-holds c = (search needs, refl, search needs)
+loop-holds c = (refl, search needs, search needs)
 
 shared-slice-read-sum : tie.Need-shared-slice-read-sum Inv-loop μ-loop
 shared-slice-read-sum c = search needs
@@ -58,7 +58,7 @@ loop-again c =
     let l = c .before .before .before .loop in
     let g = c .before .before .before .before .args in
     let q = sum-next (l .j) (λ (k : ℕ). getD (g .row .now) k 0 * getD (g .x .now) k 0) in
-    (search needs, omega arith, omega (arith, bound c))
+    (omega arith, omega (arith, bound c), search needs)
 
 add-sum-2 : tie.Need-add-sum-2 Inv-loop μ-loop
 add-sum-2 c = search needs
@@ -82,7 +82,7 @@ returns c =
     let g = c .before .before .before .args in
     let e : l .j ≡ length (g .row .now) = omega arith in
     ap (λ (z : ℕ). (z + getD (g .x .now) (length (g .row .now) + g .i) 0) % modulus)
-    (l .inv .1 ∙ ap (λ (k : ℕ). sumBelow k (λ (t : ℕ). getD (g .row .now) t 0 * getD (g .x .now) t 0)) e)
+    (l .inv .0 ∙ ap (λ (k : ℕ). sumBelow k (λ (t : ℕ). getD (g .row .now) t 0 * getD (g .x .now) t 0)) e)
 
 pub row-times-spec : {M : Type 1} → statement M
 row-times-spec =
