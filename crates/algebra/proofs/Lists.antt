@@ -1,15 +1,16 @@
 -- Laws of the vocabulary of lists: tables, searches, stretches, and outputs that a loop writes from the front.
 use mathlib.Core.Path.{_≡_, refl, sym, ap, ap₂, _∙_, subst}
 use mathlib.Core.Bool.{Bool, true, false, cond, _&&_, false≢true}
-use mathlib.Core.List.{List, [], _∷_, _++_}
+use mathlib.Core.List.{List, [], _∷_, _++_, append-assoc}
 use Prim.Native.Nat.{ℕ, zero, suc, _+_, _-_, _*_, _≤_, _<_}
 use native.Mathlib.Nat.{not-suc-le-zero, le-refl, le-trans, le-of-eq, suc-mul, mul-le-mul-right}
 use native.Mathlib.Numerals.{add-one}
 use native.Mathlib.Decide.{ℕ-discrete}
 use native.Mathlib.Omega.{arith}
 use lib.ListN.{length, getD, take, drop, set, length-append, length-take, length-drop, length-set, take-append-drop, List·getD-append}
-use lib.Seq.{take-at, drop-cons, set-at, append-snoc, getD-at, ext-getD}
-use Rattle.algebra.specs.Lists.{tab, allBelow, firstFrom, stretch, over}
+use borrow.Rule.Slice.PartMut.{putMid, midOf}
+use lib.Seq.{take-at, drop-at, drop-cons, drop-drop, drop-append-le, set-at, append-snoc, getD-at, ext-getD}
+use Rattle.algebra.specs.Lists.{tab, allBelow, firstFrom, stretch, over, overAt}
 
 -- two lists of n are equal by their entries
 pub same-list : (n : ℕ) (s t : List ℕ) → length s ≡ n → length t ≡ n → ((j : ℕ) → j < n → getD s j 0 ≡ getD t j 0) → s ≡ t
@@ -129,6 +130,25 @@ pub over-parts : (l d y : List ℕ) (n : ℕ) → length l ≡ n → take n y �
 unfolding over
 over-parts l d y n e t r =
     sym (take-append-drop n y) ∙ ap₂ (λ (a b : List ℕ). a ++ b) t (r ∙ ap (λ (k : ℕ). drop k d) (sym e))
+
+-- what a callee wrote over the front of a lent part, back in its place
+pub part-over : (l d : List ℕ) (a k : ℕ) → length l ≤ k → a + k ≤ length d → putMid a k d (over l (midOf a k d)) ≡ overAt l a d
+unfolding over overAt
+part-over l d a k h f =
+    ap (λ (z : List ℕ). take a d ++ z)
+    (append-assoc l _ _
+    ∙ ap (λ (z : List ℕ). l ++ z)
+    (sym (drop-append-le (length l) (take k (drop a d)) (drop k (drop a d)) (simp (length-take, length-drop) (omega arith)))
+    ∙ ap (drop (length l)) (take-append-drop k (drop a d))))
+
+-- two lists written one behind the other
+pub over-behind : (l m d : List ℕ) (a : ℕ) → length l ≡ a → overAt m a (over l d) ≡ over (l ++ m) d
+unfolding over overAt
+over-behind l m d a e =
+    ap₂ (λ (x y : List ℕ). x ++ y) (take-at l (drop (length l) d) a e)
+    (ap (λ (z : List ℕ). m ++ drop (length m) z) (drop-at l (drop (length l) d) a e)
+    ∙ ap (λ (z : List ℕ). m ++ z) (drop-drop (length m) (length l) d ∙ ap (λ (k : ℕ). drop k d) (sym (length-append l m))))
+    ∙ sym (append-assoc l m _)
 
 -- one more entry written behind those in front
 pub over-more : (l d : List ℕ) (j x : ℕ) → length l ≡ j → j < length d → set (over l d) j x ≡ over (l ++ (x ∷ [])) d

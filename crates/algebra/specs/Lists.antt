@@ -37,3 +37,7 @@ stretch size k l = take size (drop (k * size) l)
 -- what an output d holds once l is written over its front: l, and then the rest of d as it was
 unfoldable pub over : List ℕ → List ℕ → List ℕ
 over l d = l ++ drop (length l) d
+
+-- the same from the place a on
+unfoldable pub overAt : List ℕ → ℕ → List ℕ → List ℕ
+overAt l a d = take a d ++ over l (drop a d)

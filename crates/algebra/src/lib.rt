@@ -2,6 +2,7 @@
 // What is written goes over the front of the output, whose rest stays.
 pub mod draw;
 pub mod matrix;
+pub mod output;
 pub mod permutation;
 pub mod residue;
 

@@ -3,12 +3,15 @@ use mathlib.Core.Path.{_≡_, refl, sym, ap, _∙_}
 use mathlib.Core.Bool.{Bool, true, false}
 use mathlib.Core.List.{List}
 use mathlib.Core.Logic.{_⊎_, inl, inr}
-use Prim.Native.Nat.{ℕ}
+use Prim.Native.Nat.{ℕ, zero, suc, _+_, _<_}
+use native.Mathlib.Nat.{not-suc-le-zero, le-refl}
+use native.Mathlib.Numerals.{add-one}
+use native.Mathlib.Decide.{ℕ-discrete}
 use native.Mathlib.Omega.{arith}
 use Rattle.refusals.specs.declared.Refusal.{Refusal}
 use Rattle.refusals.specs.declared.Checked.{Checked}
 use Rattle.refusals.specs.declared.Checked.the-variants.{Fine, Refused}
-use Rattle.refusals.specs.Told.{Told, done, refused, told, means, first, demand}
+use Rattle.refusals.specs.Told.{Told, done, refused, fine, told, means, first, firstBelow, demand}
 
 -- ---- an answer is fixed by what it means: the way back
 
@@ -57,3 +60,39 @@ demand-done false k l p values e = let z : _≡_ {A = ℕ} 0 1 = cc in absurd (o
 pub first-refused : (a b : Told) (k l p : ℕ) → first a b ≡ refused k l p → (a ≡ refused k l p) ⊎ (Passed a × (b ≡ refused k l p))
 first-refused (done v) b k l p e = inr ((v, refl), e)
 first-refused (refused x y z) b k l p e = inl e
+
+-- ---- the first refusal below n, as a loop goes through it: at the place k none was found before
+
+pub below-none : (f : ℕ → Told) → firstBelow 0 f ≡ fine
+unfolding firstBelow
+below-none f = refl
+
+module _ (f : ℕ → Told) (k : ℕ) (none : firstBelow k f ≡ fine) where
+  pub below-more : f k ≡ fine → firstBelow (k + 1) f ≡ fine
+  unfolding firstBelow
+  below-more e = rw (add-one, none) e
+
+  -- the refusal found at k is the whole's
+  pub below-stops : (n : ℕ) {x y z : ℕ} → k < n → f k ≡ refused x y z → refused x y z ≡ firstBelow n f
+  unfolding firstBelow
+  below-stops zero l e = absurd (not-suc-le-zero l)
+  below-stops (suc n) {x} {y} {z} l e = step (ℕ-discrete k n) (λ l. below-stops n l e)
+    where
+      step : Dec (k ≡ n) → (k < n → refused x y z ≡ firstBelow n f) → refused x y z ≡ first (firstBelow n f) (f n)
+      step (yes q) ih = rw (← q, none) (sym e)
+      step (no q) ih = rw (← ih (omega arith))
+
+-- a chain below n refuses nothing exactly where no link does
+pub below-passed : (n : ℕ) (f : ℕ → Told) (values : List ℕ) → firstBelow n f ≡ done values → (k : ℕ) → k < n → Passed (f k)
+unfolding firstBelow
+below-passed zero f values e k l = absurd (not-suc-le-zero l)
+below-passed (suc n) f values e k l = step (ℕ-discrete k n) (first-done (firstBelow n f) (f n) values e) (λ v e l. below-passed n f v e k l)
+  where
+    step : Dec (k ≡ n) → Passed (firstBelow n f) × (f n ≡ done values) → ((v : List ℕ) → firstBelow n f ≡ done v → k < n → Passed (f k)) → Passed (f k)
+    step (yes q) (a, b) ih = rw q (values, b)
+    step (no q) ((v, a), b) ih = ih v a (omega arith)
+
+pub below-fine : (n : ℕ) (f : ℕ → Told) → ((k : ℕ) → k < n → f k ≡ fine) → firstBelow n f ≡ fine
+unfolding firstBelow
+below-fine zero f h = refl
+below-fine (suc n) f h = rw (below-fine n f (λ k l. h k (omega arith))) (h n (le-refl (suc n)))

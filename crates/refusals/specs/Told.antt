@@ -1,7 +1,7 @@
 -- What a call tells its caller, in document 01's terms.
 use mathlib.Core.Bool.{Bool, true, false}
 use mathlib.Core.List.{List, []}
-use Prim.Native.Nat.{ℕ}
+use Prim.Native.Nat.{ℕ, zero, suc}
 use Rattle.refusals.specs.declared.Refusal.{Refusal}
 use Rattle.refusals.specs.declared.Checked.{Checked}
 use Rattle.refusals.specs.declared.Checked.the-variants.{Fine, Refused}
@@ -27,6 +27,11 @@ means (Refused r) = told r
 abbrev pub first : Told → Told → Told
 first (done values) next = next
 first (refused number buffer place) next = refused number buffer place
+
+-- the first refusal of f 0, f 1, .., f (n - 1)
+unfoldable pub firstBelow : ℕ → (ℕ → Told) → Told
+firstBelow zero f = fine
+firstBelow (suc n) f = first (firstBelow n f) (f n)
 
 -- a test that has to hold, and the refusal where it does not
 abbrev pub demand : Bool → ℕ → ℕ → ℕ → Told
