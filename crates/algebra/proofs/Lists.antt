@@ -62,6 +62,13 @@ unfolding allBelow
 allBelow-all zero f h = refl
 allBelow-all (suc n) f h = rw (h n (le-refl (suc n))) (allBelow-all n f (λ k l. h k (omega arith)))
 
+pub allBelow-none : (n : ℕ) (f : ℕ → Bool) (k : ℕ) → k < n → f k ≡ false → false ≡ allBelow n f
+allBelow-none n f k l e = go (allBelow n f) refl
+  where
+    go : (b : Bool) → allBelow n f ≡ b → false ≡ b
+    go true q = absurd (false≢true (sym e ∙ allBelow-at n f q k l))
+    go false q = refl
+
 -- ---- searches, as a loop goes through them: k is the place looked at, of n
 
 module _ (f : ℕ → Bool) (n k : ℕ) where
@@ -113,6 +120,10 @@ length-stretch size k s h = simp (length-take, length-drop) (omega arith)
 pub part-stretch : (size k : ℕ) (s : List ℕ) → take (k * size + size - k * size) (drop (k * size) s) ≡ stretch size k s
 unfolding stretch
 part-stretch size k s = let e : k * size + size - k * size ≡ size = omega arith in rw e
+
+-- as a loop cuts it that goes on by `size`
+pub from-stretch : (size k from : ℕ) (s : List ℕ) → from ≡ k * size → take (from + size - from) (drop from s) ≡ stretch size k s
+from-stretch size k from s e = ap (λ (z : ℕ). take (z + size - z) (drop z s)) e ∙ part-stretch size k s
 
 -- the stretch k of m fits in
 pub stretch-fits : (size k m : ℕ) → k < m → k * size + size ≤ m * size

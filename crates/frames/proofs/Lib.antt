@@ -1,0 +1,6 @@
+-- The laws of frames, and examples.
+pub mod Loops
+pub mod Orders
+pub mod Facts
+pub mod Writing
+pub mod OpeningLaws

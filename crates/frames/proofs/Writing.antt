@@ -1,0 +1,103 @@
+-- Laws of writing: the heading, and the orders of refusals, an answer each, as the code finds them.
+use mathlib.Core.Path.{_≡_, refl, sym, ap, _∙_}
+use mathlib.Core.Bool.{true, false}
+use mathlib.Core.List.{List, [], _∷_, _++_}
+use Prim.Native.Nat.{ℕ, _+_, _-_, _/_, _%_, _≤_, _<_}
+use native.Mathlib.Omega.{arith}
+use borrow.Author.Tests.{eqb-true, eq-eqb, ne-eqb, lt-leb, le-leb}
+use lib.Dec.{eqb, leb}
+use lib.ListN.{length, take}
+use lib.Seq.{length-take-le}
+use Rattle.refusals.specs.declared.Refusal.{Refusal}
+use Rattle.refusals.specs.declared.Checked.{Checked}
+use Rattle.refusals.specs.declared.Checked.the-variants.{Fine, Refused}
+use Rattle.refusals.specs.Number.{SHAPE, ROOM}
+use Rattle.refusals.specs.Buffer.{NONE, OUTPUT}
+use Rattle.refusals.specs.Told.{Told, done, refused, fine, told, means, first, demand}
+use Rattle.refusals.proofs.Chain.{passes, stops, Passed, first-done, demand-done}
+use Rattle.algebra.specs.Lists.{over, overAt}
+use Rattle.algebra.proofs.Lists.{over-behind}
+use Rattle.frames.specs.declared.kind.Kind.{Kind}
+use Rattle.frames.specs.Kinds.{alone, table, fits}
+use Rattle.frames.specs.Reading.{spareClear, content}
+use Rattle.frames.specs.Writing.{heading, frame, frameSize, plainCheck}
+use Rattle.frames.proofs.Facts.{test-holds, rest-done}
+
+-- the heading as the code lays it out, the first `start` of an array
+abbrev pub laid : ℕ → ℕ → ℕ → ℕ → ℕ → ℕ → List ℕ
+laid start count version number a b = take start (count / 256 ∷ count % 256 ∷ version ∷ number ∷ a ∷ b ∷ [])
+
+pub laid-length : (start count version number a b : ℕ) → start ≤ 6 → length (laid start count version number a b) ≡ start
+laid-length start count version number a b l = length-take-le start _ l
+
+pub laid-fits : (start count version number a b room : ℕ) → start ≤ 6 → start ≤ room → length (laid start count version number a b) ≤ room
+laid-fits start count version number a b room l h = rw (laid-length start count version number a b l) h
+
+-- a frame is its heading and then the rest
+pub framed : (k : Kind) (a b : ℕ) (rest out : List ℕ) (start version number : ℕ) → start ≤ 6 → start ≡ table k .start → version ≡ table k .version
+    → number ≡ table k .number → overAt rest start (over (laid start (start - 2 + length rest) version number a b) out) ≡ over (frame k a b rest) out
+unfolding frame
+framed k a b rest out start version number l p q r =
+    let e : laid start (start - 2 + length rest) version number a b ≡ heading k (table k .start - 2 + length rest) a b = rw (p, q, r) in
+    over-behind (laid start (start - 2 + length rest) version number a b) rest out start (laid-length start _ version number a b l)
+    ∙ ap (λ (h : List ℕ). over (h ++ rest) out) e
+
+-- ---- the plain buffer; b' is the kind's buffer
+
+module _ (k : Kind) (a b : ℕ) (plain : List ℕ) where
+  pub bad-numbers : fits k alone a b ≡ false → refused SHAPE NONE 0 ≡ plainCheck k a b plain
+  unfolding plainCheck
+  bad-numbers f = rw f
+
+  module _ (t : fits k alone a b ≡ true) where
+    pub bad-length : (b′ : ℕ) → b′ ≡ table k .buffer → (length plain ≡ table k .size a b → ⊥) → refused SHAPE b′ 0 ≡ plainCheck k a b plain
+    unfolding plainCheck
+    bad-length b′ e f = rw (t, ne-eqb (length plain) (table k .size a b) f, e)
+
+    module _ (n : length plain ≡ table k .size a b) (r : Checked) (m : means r ≡ content k a b 0 plain) where
+      pub bad-content : (x : Refusal) → r ≡ Refused x → told x ≡ plainCheck k a b plain
+      unfolding plainCheck
+      bad-content x e = rw (t, eq-eqb (length plain) (table k .size a b) n) (stops _ m e)
+
+      pub bad-spare : (b′ : ℕ) → b′ ≡ table k .buffer → r ≡ Fine → spareClear k a plain ≡ false → refused SHAPE b′ 0 ≡ plainCheck k a b plain
+      unfolding plainCheck
+      bad-spare b′ p e f = rw (t, eq-eqb (length plain) (table k .size a b) n) (passes m e (rw (f, p)))
+
+      pub good-plain : r ≡ Fine → spareClear k a plain ≡ true → fine ≡ plainCheck k a b plain
+      unfolding plainCheck
+      good-plain e f = rw (t, eq-eqb (length plain) (table k .size a b) n) (passes m e (rw f))
+
+-- what a plain buffer that is not refused says
+pub record Plain (k : Kind) (a b : ℕ) (plain : List ℕ) : Type 0 where
+  pub numbers : fits k alone a b ≡ true
+  pub size : length plain ≡ table k .size a b
+  pub content : Passed (content k a b 0 plain)
+  pub spare : spareClear k a plain ≡ true
+
+pub plain-told : (k : Kind) (a b : ℕ) (plain v : List ℕ) → plainCheck k a b plain ≡ done v → Plain k a b plain
+unfolding plainCheck
+plain-told k a b plain v e =
+    let t1 = fits k alone a b in
+    let t2 = eqb (length plain) (table k .size a b) in
+    let t4 = spareClear k a plain in
+    let r4 : Told = demand t4 SHAPE (table k .buffer) 0 in
+    let r3 : Told = first (content k a b 0 plain) r4 in
+    let r2 : Told = first (demand t2 SHAPE (table k .buffer) 0) r3 in
+    let e2 = rest-done t1 SHAPE NONE 0 r2 v e in
+    let e3 = rest-done t2 SHAPE (table k .buffer) 0 r3 v e2 in
+    let p = first-done (content k a b 0 plain) r4 v e3 in
+    record {
+      numbers = test-holds t1 SHAPE NONE 0 r2 v e;
+      size = eqb-true _ _ (test-holds t2 SHAPE (table k .buffer) 0 r3 v e2);
+      content = p .0;
+      spare = demand-done t4 SHAPE (table k .buffer) 0 v (p .1);
+    }
+
+-- ---- ROOM; `need` is what the code works out
+
+module _ (k : Kind) (a b need room : ℕ) (e : need ≡ frameSize k a b) where
+  pub no-room : room < need → refused ROOM OUTPUT need ≡ first (demand (leb (frameSize k a b) room) ROOM OUTPUT (frameSize k a b)) (done (frameSize k a b ∷ []))
+  no-room l = let m : room < frameSize k a b = omega arith in rw (lt-leb (frameSize k a b) room m, e)
+
+  pub room-enough : need ≤ room → done (need ∷ []) ≡ first (demand (leb (frameSize k a b) room) ROOM OUTPUT (frameSize k a b)) (done (frameSize k a b ∷ []))
+  room-enough l = let m : frameSize k a b ≤ room = omega arith in rw (le-leb (frameSize k a b) room m, e)

@@ -1,0 +1,183 @@
+// Readers: the header, then SHAPE, then the bytes in order.
+use crate::body::check_content;
+use crate::body::spare_clear;
+use crate::kind::Expected;
+use crate::kind::Kind;
+use crate::kind::alone;
+use crate::kind::buffer_of;
+use crate::kind::number_of;
+use crate::kind::numbers_fit;
+use crate::kind::size_of;
+use crate::kind::start_of;
+use crate::kind::version_of;
+use crate::wide;
+use refusals::Checked;
+use refusals::Refusal;
+use refusals::number::KIND;
+use refusals::number::LONG;
+use refusals::number::SHAPE;
+use refusals::number::SHORT;
+use refusals::number::VERSION;
+use refusals::refuse;
+ghost use mathlib.Core.Path.{_≡_};
+ghost use Prim.Native.Nat.{_≤_, _<_};
+ghost use lib.ListN.{length};
+ghost use Rattle.refusals.specs.Told.{means, demand};
+ghost use Rattle.refusals.specs.Number.{SHAPE};
+ghost use Rattle.frames.specs.Kinds.{offsets, alone, Modest, table};
+ghost use Rattle.frames.specs.Reading.{countOf, header, secondOf, shape, Reads};
+
+// What a reader answers: the numbers (the second is 0 where a kind has one) and where the rest of the body starts.
+pub enum Read {
+    Frame(usize, usize, usize),
+    Refused(Refusal),
+}
+
+// The count of the first two bytes.
+pub fn count_of(s: &[u8]) -> usize
+    requires { ⌜ 2 ≤ length (now s) ⌝ }
+    ensures { λ r. ⌜ (r ≡ countOf (now (s .entry))) × (r < 65536) ⌝ }
+{
+    wide(s[0]) * 256 + wide(s[1])
+}
+
+// SHORT, LONG, VERSION, KIND.
+fn check_header(kind: Kind, s: &[u8]) -> Checked
+    ensures { λ r. ⌜ means r ≡ header kind (now (s .entry)) ⌝ }
+{
+    let buffer = buffer_of(kind);
+    if s.len() < 4 {
+        return refuse(SHORT, buffer, 0);
+    }
+    let whole = count_of(s) + 2;
+    if s.len() < whole {
+        return refuse(SHORT, buffer, 0);
+    }
+    if whole < s.len() {
+        return refuse(LONG, buffer, 0);
+    }
+    if s[2] != version_of(kind) {
+        return refuse(VERSION, buffer, 2);
+    }
+    if s[3] != number_of(kind) {
+        return refuse(KIND, buffer, 3);
+    }
+    Checked::Fine
+}
+
+// The second number, where the kind has one.
+fn second_of(kind: Kind, s: &[u8]) -> usize
+    requires { ⌜ table kind .start ≤ length (now s) ⌝ }
+    ensures { λ r. ⌜ (r ≡ secondOf kind (now (s .entry))) × (r < 256) ⌝ }
+{
+    if start_of(kind) == 6 {
+        return wide(s[5]);
+    }
+    0
+}
+
+// Whether the numbers and the length are as tabled, and no unused bit is set.
+fn shape_fits(kind: Kind, expected: Expected, s: &[u8]) -> bool
+    requires { ⌜ length (now s) < offsets ⌝ }
+    ensures { λ r. ⌜ r ≡ shape kind expected (now (s .entry)) ⌝ }
+{
+    let start = start_of(kind);
+    if s.len() < start {
+        return false;
+    }
+    let first = wide(s[4]);
+    let second = second_of(kind, s);
+    if !numbers_fit(kind, expected, first, second) {
+        return false;
+    }
+    if s.len() != start + size_of(kind, first, second) {
+        return false;
+    }
+    spare_clear(kind, first, &s[start..])
+}
+
+// A frame of any kind, with what is asked of n and N.
+pub fn read_frame(kind: Kind, expected: Expected, s: &[u8]) -> Read
+    requires { ⌜ Modest expected ⌝ }
+    ensures { λ r. ⌜ Reads kind expected (now (s .entry)) r ⌝ }
+{
+    if let Checked::Refused(x) = check_header(kind, s) {
+        return Read::Refused(x);
+    }
+    if let Checked::Refused(x) = check_shape(kind, expected, s) {
+        return Read::Refused(x);
+    }
+    let start = start_of(kind);
+    let first = wide(s[4]);
+    let second = second_of(kind, s);
+    if let Checked::Refused(x) = check_content(kind, first, second, start, &s[start..]) {
+        return Read::Refused(x);
+    }
+    Read::Frame(first, second, start)
+}
+
+// SHAPE.
+fn check_shape(kind: Kind, expected: Expected, s: &[u8]) -> Checked
+    requires { ⌜ length (now s) < offsets ⌝ }
+    ensures { λ r. ⌜ means r ≡ demand (shape kind expected (now (s .entry))) SHAPE (table kind .buffer) 4 ⌝ }
+{
+    if shape_fits(kind, expected, s) {
+        return Checked::Fine;
+    }
+    refuse(SHAPE, buffer_of(kind), 4)
+}
+
+// A frame of any kind, alone.
+fn read_alone(kind: Kind, frame: &[u8]) -> Read
+    ensures { λ r. ⌜ Reads kind alone (now (frame .entry)) r ⌝ }
+{
+    read_frame(kind, alone(), frame)
+}
+
+pub fn read_system(frame: &[u8]) -> Read
+    ensures { λ r. ⌜ Reads Kind.System alone (now (frame .entry)) r ⌝ }
+{
+    read_alone(Kind::System, frame)
+}
+
+pub fn read_public_key(frame: &[u8]) -> Read
+    ensures { λ r. ⌜ Reads Kind.Public alone (now (frame .entry)) r ⌝ }
+{
+    read_alone(Kind::Public, frame)
+}
+
+pub fn read_secret_key(frame: &[u8]) -> Read
+    ensures { λ r. ⌜ Reads Kind.Secret alone (now (frame .entry)) r ⌝ }
+{
+    read_alone(Kind::Secret, frame)
+}
+
+pub fn read_commitments(frame: &[u8]) -> Read
+    ensures { λ r. ⌜ Reads Kind.Commitments alone (now (frame .entry)) r ⌝ }
+{
+    read_alone(Kind::Commitments, frame)
+}
+
+pub fn read_challenges(frame: &[u8]) -> Read
+    ensures { λ r. ⌜ Reads Kind.Challenges alone (now (frame .entry)) r ⌝ }
+{
+    read_alone(Kind::Challenges, frame)
+}
+
+pub fn read_first_answers(frame: &[u8]) -> Read
+    ensures { λ r. ⌜ Reads Kind.Answers alone (now (frame .entry)) r ⌝ }
+{
+    read_alone(Kind::Answers, frame)
+}
+
+pub fn read_bits(frame: &[u8]) -> Read
+    ensures { λ r. ⌜ Reads Kind.Bits alone (now (frame .entry)) r ⌝ }
+{
+    read_alone(Kind::Bits, frame)
+}
+
+pub fn read_openings(frame: &[u8]) -> Read
+    ensures { λ r. ⌜ Reads Kind.Openings alone (now (frame .entry)) r ⌝ }
+{
+    read_alone(Kind::Openings, frame)
+}
