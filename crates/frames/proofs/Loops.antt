@@ -1,16 +1,15 @@
 -- Laws for the loops that check bodies: residues, permutations, unused bits.
-use mathlib.Core.Path.{_≡_, refl, sym, ap, ap₂, _∙_}
+use mathlib.Core.Path.{_≡_, sym, ap, ap₂, _∙_}
 use mathlib.Core.Bool.{Bool, true, false, not}
 use mathlib.Core.List.{List}
 use Prim.Native.Nat.{ℕ, _+_, _-_, _*_, _≤_, _<_}
 use native.Mathlib.Decide.{ℕ-discrete}
 use native.Mathlib.Omega.{arith}
 use borrow.Author.Tests.{lt-ltb, le-ltb}
-use lib.Dec.{ltb}
 use lib.ListN.{length, getD, take, drop}
 use Rattle.refusals.specs.Number.{VALUE, PERM}
-use Rattle.refusals.specs.Told.{Told, refused, fine, firstBelow, demand}
-use Rattle.algebra.specs.Lists.{stretch, allBelow}
+use Rattle.refusals.specs.Told.{refused, fine}
+use Rattle.algebra.specs.Lists.{stretch}
 use Rattle.algebra.specs.Residues.{modulus}
 use Rattle.algebra.specs.Permutations.{isPerm}
 use Rattle.algebra.proofs.Lists.{allBelow-all, allBelow-none, from-stretch, length-stretch}

@@ -1,5 +1,5 @@
 -- Laws of the opening of a named round.
-use mathlib.Core.Path.{_≡_, refl, sym, ap, _∙_}
+use mathlib.Core.Path.{_≡_, sym, ap, _∙_}
 use mathlib.Core.List.{List, [], _∷_}
 use Prim.Native.Nat.{ℕ, _+_, _-_, _*_, _≤_, _<_}
 use native.Mathlib.Nat.{mul-comm}
@@ -10,13 +10,13 @@ use lib.ListN.{length, getD, take, drop}
 use lib.Seq.{drop-drop}
 use Rattle.refusals.specs.Number.{SHAPE}
 use Rattle.refusals.specs.Buffer.{NONE}
-use Rattle.refusals.specs.Told.{Told, done, refused, fine, demand}
+use Rattle.refusals.specs.Told.{done, refused, fine, demand}
 use Rattle.refusals.proofs.Chain.{first-done, demand-done}
 use Rattle.algebra.specs.Lists.{stretch}
 use Rattle.algebra.proofs.Lists.{stretch-fits}
 use Rattle.frames.specs.declared.kind.Kind.the-variants.{Openings}
 use Rattle.frames.specs.Kinds.{alone}
-use Rattle.frames.specs.Reading.{firstOf, secondOf, restOf, reading, openingCheck, openingOf}
+use Rattle.frames.specs.Reading.{firstOf, secondOf, reading, openingCheck, openingOf}
 use Rattle.frames.proofs.Facts.{Shaped, reading-told, numbers-small, size-small}
 
 -- N as it was read

@@ -4,11 +4,10 @@ use mathlib.Core.List.{[], _∷_}
 use native.Mathlib.Omega.{arith}
 use borrow.Author.Needs.{needs}
 use lib.ListN.{length, length-drop}
-use Rattle.refusals.specs.Number.{SHAPE}
 use Rattle.refusals.specs.Told.{done, means}
 use Rattle.refusals.proofs.Chain.{passes, stops, demand-done}
 use Rattle.frames.specs.Kinds.{table}
-use Rattle.frames.specs.Reading.{header, firstOf, secondOf, reading}
+use Rattle.frames.specs.Reading.{firstOf, secondOf, reading}
 use Rattle.frames.proofs.Facts.{Headed, header-told, first-modest, Shaped, shape-told, rest-length, start-five}
 use Rattle.frames.proofs.Orders.{rest-part, content-read, numbers-read}
 use Rattle.frames.proofs.read.read_frame.Statement.{statement}

@@ -1,0 +1,29 @@
+-- The values that the rest of a body holds: rows of A', a vector, permutations, digests, challenges, first answers, or the N bits.
+use mathlib.Core.Bool.{cond}
+use mathlib.Core.List.{List, [], _∷_}
+use Prim.Native.Nat.{ℕ, zero, suc, _+_, _-_, _<_}
+use lib.ListN.{getD, take, drop}
+use Rattle.algebra.specs.Lists.{tab}
+use Rattle.frames.specs.declared.kind.Kind.{Kind}
+use Rattle.frames.specs.declared.kind.Kind.the-variants.{System, Public, Secret, Commitments, Challenges, Answers, Bits, Openings}
+use Rattle.frames.specs.PackedBits.{bitAt}
+
+-- each entry is a byte
+abbrev pub Bytes : List ℕ → Type 0
+Bytes s = (j : ℕ) → getD s j 0 < 256
+
+-- a list cut into pieces of one size
+unfoldable pub cut : ℕ → ℕ → List ℕ → List (List ℕ)
+cut zero size l = []
+cut (suc count) size l = take size l ∷ cut count size (drop size l)
+
+-- the values, by the numbers a and b
+abbrev pub valuesOf : Kind → ℕ → ℕ → List ℕ → List (List ℕ)
+valuesOf System n m rest = cut m (n - m) rest
+valuesOf Public n z rest = cut 1 n rest
+valuesOf Secret n z rest = cut 1 n rest
+valuesOf Commitments N z rest = cut (N + N) 32 rest
+valuesOf Challenges N z rest = cut 1 N rest
+valuesOf Answers n N rest = cut N n rest
+valuesOf Bits N z rest = tab N (λ (k : ℕ). cond (bitAt rest k) 1 0) ∷ []
+valuesOf Openings n N rest = cut N n rest
