@@ -1,17 +1,20 @@
--- Laws of a stream: what a step makes of the message that it has absorbed, as the functions of `src/stream.rt` go.
+-- Laws of a stream: what each step makes of the message that was absorbed, as the functions of `src/stream.rt` go.
 use mathlib.Core.Path.{_≡_, refl, sym, ap, _∙_}
 use mathlib.Core.List.{List, [], _∷_, _++_, append-assoc}
 use Prim.Native.Nat.{ℕ, zero, suc, _+_, _-_, _*_, _/_, _%_, _≤_, _<_}
-use native.Mathlib.Numerals.{add-one}
+use native.Mathlib.Nat.{le-refl}
 use native.Mathlib.Omega.{arith}
-use lib.ListN.{length, getD, take, drop, set, length-append, length-drop, drop-of-length-le}
-use lib.Seq.{take-all, take-suc, take-suc-set, take-append-le, drop-append-le}
-use Rattle.sha256.specs.Absorbed.{Absorbed}
+use lib.ListN.{length, take, drop, set, replicate, length-append, length-drop, drop-of-length-le, length-replicate, take-append-drop}
+use lib.Seq.{drop-append-le, drop-at, length-take-le, paste, set-at, take-all, take-append-add, take-append-le, take-length, take-paste}
+use Rattle.sha256.proofs.Padding.{take-zeros, drop-zeros}
+use Rattle.sha256.specs.Absorbed.{Absorbed, Chained}
 use Rattle.sha256.specs.Standard.{blockAt, blockCount, bytesOf, compressOf, digestOf, hashValue, pad, padding}
+use Rattle.sha256.specs.declared.block.Words.{Words}
 use Rattle.sha256.specs.declared.stream.Stream.{Stream}
 
--- ---- what follows whole blocks changes neither them nor their hash value
+-- ---- whole blocks
 
+-- what follows whole blocks changes neither them nor their hash value
 block-left : (m y : List ℕ) (i : ℕ) → 64 * i + 64 ≤ length m → blockAt (m ++ y) i ≡ blockAt m i
 unfolding blockAt
 block-left m y i h =
@@ -24,75 +27,99 @@ unfolding hashValue
 hash-left m y zero h = refl
 hash-left m y (suc i) h = rw (hash-left m y i (omega arith), block-left m y i (omega arith))
 
--- ---- a part that does not go past the end of the block
-
--- one byte more of the part y is laid at place `at` of the buffer
-pub fill-more : (b b₀ y : List ℕ) (at j : ℕ) → at + j < length b → j < length y → take (at + j) b ≡ take at b₀ ++ take j y
-    → take (at + (j + 1)) (set b (at + j) (getD y j 0)) ≡ take at b₀ ++ take (j + 1) y
-fill-more b b₀ y at j h l e =
-    let q : at + (j + 1) ≡ suc (at + j) = omega arith in
-    rw (q, add-one, take-suc y j 0 l, ← append-assoc (take at b₀) (take j y) (getD y j 0 ∷ []), ← e) (take-suc-set b (at + j) (getD y j 0) h)
-
--- the buffer has the bytes that waited and then those of y
-module _ (s : Stream) (m y b : List ℕ) (k : Absorbed s m) (laid : take (s .count % 64 + length y) b ≡ take (s .count % 64) (s .buffer) ++ y) where
-  waits : take (length m % 64 + length y) b ≡ drop (64 * (length m / 64)) (m ++ y)
-  waits = rw (k .count) at laid ∙ ap (λ (l : List ℕ). l ++ y) (k .waiting) ∙ sym (drop-append-le (64 * (length m / 64)) m y (omega arith))
-
-  -- they do not fill it
-  pub within : s .count % 64 + length y < 64 → Absorbed (record { words = s .words; buffer = b; count = s .count + length y }) (m ++ y)
-  within h =
-      let e : length (m ++ y) ≡ length m + length y = length-append m y in
-      let n : s .count ≡ length m = k .count in
-      let q : length (m ++ y) / 64 ≡ length m / 64 = omega arith in
-      let r : length (m ++ y) % 64 ≡ length m % 64 + length y = omega arith in
-      record {
-        count = omega arith;
-        words = rw q (k .words ∙ sym (hash-left m y (length m / 64) (omega arith)));
-        waiting = rw (q, r) waits;
-      }
-
--- ---- a whole block, that ends the message so far
-
--- a block v that is what the message m ++ y has past the whole blocks of m
-ended : (s : Stream) (m y v b : List ℕ) → Absorbed s m → length m % 64 + length y ≡ 64 → drop (64 * (length m / 64)) (m ++ y) ≡ v → length v ≡ 64
-    → Absorbed (record { words = compressOf (s .words) v; buffer = b; count = s .count + length y }) (m ++ y)
+-- one block more
+pub chained-more : (v : Words) (m y : List ℕ) → Chained v m → length y ≡ 64 → Chained (compressOf v y) (m ++ y)
 unfolding hashValue blockAt
-ended s m y v b k end rest size =
+chained-more v m y k size =
+    let e : length (m ++ y) ≡ length m + length y = length-append m y in
+    let w : length m % 64 ≡ 0 = k .whole in
+    let n : length m ≡ 64 * (length m / 64) = omega arith in
+    let q : length (m ++ y) / 64 ≡ suc (length m / 64) = omega arith in
+    let d : take 64 (drop (64 * (length m / 64)) (m ++ y)) ≡ y = rw (drop-at m y (64 * (length m / 64)) n) (take-all 64 y (omega arith)) in
+    record { whole = omega arith; value = rw (q, d, hash-left m y (length m / 64) (omega arith), ← k .value) }
+
+-- ---- a stream has the hash value of the whole blocks of its message
+
+abbrev pub wholeOf : List ℕ → List ℕ
+wholeOf m = take (64 * (length m / 64)) m
+
+pub chained : (s : Stream) (m : List ℕ) → Absorbed s m → Chained (s .words) (wholeOf m)
+chained s m k =
+    let e : length (wholeOf m) ≡ 64 * (length m / 64) = length-take-le (64 * (length m / 64)) m (omega arith) in
+    let q : length (wholeOf m) / 64 ≡ length m / 64 = omega arith in
+    let d = drop (64 * (length m / 64)) m in
+    let l : hashValue m (length m / 64) ≡ hashValue (wholeOf m) (length m / 64) =
+    ap (λ (p : List ℕ). hashValue p (length m / 64)) (sym (take-append-drop (64 * (length m / 64)) m)) ∙ hash-left (wholeOf m) d (length m / 64) (omega arith) in
+    record { whole = omega arith; value = rw q (k .words ∙ l) }
+
+-- with the bytes that wait, and a part y after them, that is the message and y
+pub rejoined : (s : Stream) (m y : List ℕ) → Absorbed s m → wholeOf m ++ (take (s .count % 64) (s .buffer) ++ y) ≡ m ++ y
+rejoined s m y k =
+    rw (k .count, k .waiting, ← append-assoc (wholeOf m) (drop (64 * (length m / 64)) m) y, take-append-drop (64 * (length m / 64)) m)
+
+-- no byte waits
+pub none-waits : (s : Stream) (m : List ℕ) → Absorbed s m → s .count % 64 ≡ 0 → Chained (s .words) m
+none-waits s m k none =
+    let n : s .count ≡ length m = k .count in
+    record { whole = omega arith; value = k .words }
+
+pub absorbed : (s : Stream) (m : List ℕ) → s .count ≡ length m → Chained (s .words) m → Absorbed s m
+absorbed s m n k =
+    let w : length m % 64 ≡ 0 = k .whole in
+    let l : length m ≤ 64 * (length m / 64) = omega arith in
+    record { count = n; words = k .value; waiting = rw w (sym (drop-of-length-le m l)) }
+
+-- ---- a part is laid into a buffer
+
+pub laid : (b y : List ℕ) (at : ℕ) → at ≤ length b → take (at + length y) (paste b at y (length y)) ≡ take at b ++ y
+laid b y at h = take-paste b at y (length y) h (le-refl (length y)) ∙ ap (λ (l : List ℕ). take at b ++ l) (take-length y)
+
+-- a part y after the bytes that wait, which does not end the block
+pub waited : (s : Stream) (m y b : List ℕ) → Absorbed s m → take (s .count % 64 + length y) b ≡ take (s .count % 64) (s .buffer) ++ y → s .count % 64 + length y < 64
+    → Absorbed (record { words = s .words; buffer = b; count = s .count + length y }) (m ++ y)
+waited s m y b k front h =
     let e : length (m ++ y) ≡ length m + length y = length-append m y in
     let n : s .count ≡ length m = k .count in
-    let q : length (m ++ y) / 64 ≡ suc (length m / 64) = omega arith in
-    let r : length (m ++ y) % 64 ≡ 0 = omega arith in
-    let g : length (m ++ y) ≤ 64 * (length (m ++ y) / 64) = omega arith in
-    let d : take 64 (drop (64 * (length m / 64)) (m ++ y)) ≡ v = rw rest (take-all 64 v (omega arith)) in
+    let q : length (m ++ y) / 64 ≡ length m / 64 = omega arith in
+    let r : length (m ++ y) % 64 ≡ length m % 64 + length y = omega arith in
     record {
       count = omega arith;
-      words = rw (q, d, hash-left m y (length m / 64) (omega arith), ← k .words);
-      waiting = rw r (sym (drop-of-length-le (m ++ y) g));
+      words = rw q (k .words ∙ sym (hash-left m y (length m / 64) (omega arith)));
+      waiting =
+          rw (q, r)
+          (rw (k .count) at front ∙ ap (λ (l : List ℕ). l ++ y) (k .waiting) ∙ sym (drop-append-le (64 * (length m / 64)) m y (omega arith)));
     }
 
--- the part y fills the buffer
+-- one that ends it
 pub filled : (s : Stream) (m y b : List ℕ) → Absorbed s m → take (s .count % 64 + length y) b ≡ take (s .count % 64) (s .buffer) ++ y → s .count % 64 + length y ≡ 64
     → length b ≡ 64 → Absorbed (record { words = compressOf (s .words) b; buffer = b; count = s .count + length y }) (m ++ y)
-filled s m y b k laid full size =
+filled s m y b k front full size =
     let n : s .count ≡ length m = k .count in
-    let z : length m % 64 + length y ≡ 64 = omega arith in
-    ended s m y b b k z (sym (waits s m y b k laid) ∙ ap (λ (i : ℕ). take i b) z ∙ take-all 64 b (omega arith)) size
-
--- the part y is a block, and no byte waits
-pub pushed : (s : Stream) (m y : List ℕ) → Absorbed s m → s .count % 64 ≡ 0 → length y ≡ 64
-    → Absorbed (record { words = compressOf (s .words) y; buffer = s .buffer; count = s .count + length y }) (m ++ y)
-pushed s m y k none size =
-    let n : s .count ≡ length m = k .count in
-    let l : length m ≤ 64 * (length m / 64) = omega arith in
-    ended s m y y (s .buffer) k (omega arith) (rw (drop-append-le (64 * (length m / 64)) m y (omega arith), drop-of-length-le m l)) size
-
--- ---- a part in two, and the end
+    let e : length (m ++ y) ≡ length m + length y = length-append m y in
+    let f : b ≡ take (s .count % 64) (s .buffer) ++ y = sym (take-all 64 b (omega arith)) ∙ (rw full at front) in
+    let j : wholeOf m ++ b ≡ m ++ y = ap (λ (l : List ℕ). wholeOf m ++ l) f ∙ rejoined s m y k in
+    absorbed _ (m ++ y) (omega arith) (rw j at (chained-more (s .words) (wholeOf m) b (chained s m k) size))
 
 -- what `&p[i..]` lends
 pub rest-of : (p : List ℕ) (i : ℕ) → take (length p - i) (drop i p) ≡ drop i p
 rest-of p i = take-all (length p - i) (drop i p) (rw length-drop (omega arith))
 
--- a stream that has absorbed a message and its padding has the digest
-pub digested : (s : Stream) (m t : List ℕ) → t ≡ padding (length m) → Absorbed s (m ++ t) → bytesOf (s .words) ≡ digestOf m
+-- ---- the end
+
+-- the bytes w that wait, the mark, z zeros and the count of bits, laid into zeros d
+pub ended : (u z : ℕ) (w bits d : List ℕ) → z ≤ u → d ≡ replicate (length w + suc u) 0
+    → take (length w + z + 1 + length bits) (paste (set (paste d 0 w (length w)) (length w) 0x80) (length w + z + 1) bits (length bits)) ≡ w ++ (0x80 ∷ (replicate z 0 ++ bits))
+ended u z w bits d h e =
+    let o : 0 + length w ≡ length w = omega arith in
+    let i : length w + z + 1 ≡ length w + suc z = omega arith in
+    let t = w ++ (0x80 ∷ replicate u 0) in
+    let first : paste d 0 w (length w) ≡ w ++ (0 ∷ replicate u 0) = rw (e, o, take-length w, drop-zeros (suc u) (length w)) in
+    let second : set (paste d 0 w (length w)) (length w) 0x80 ≡ t = rw first (set-at w 0 (replicate u 0) 0x80 (length w) refl) in
+    let size : length t ≡ length w + suc u = simp (length-append, length-replicate) in
+    let front : take (length w + z + 1) t ≡ w ++ (0x80 ∷ replicate z 0) = rw (i, take-append-add w (0x80 ∷ replicate u 0) (suc z), take-zeros u z h) in
+    rw (second, laid t bits (length w + z + 1) (omega arith), front) (append-assoc w (0x80 ∷ replicate z 0) bits)
+
+-- a hash value of a message and its padding is that of the digest
+pub digested : (v : Words) (m : List ℕ) → Chained v (m ++ padding (length m)) → bytesOf v ≡ digestOf m
 unfolding digestOf pad blockCount
-digested s m t e k = rw (← e) (ap bytesOf (k .words))
+digested v m k = ap bytesOf (k .value)

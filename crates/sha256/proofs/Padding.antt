@@ -5,7 +5,8 @@ use Prim.Native.Nat.{ℕ, zero, suc, _+_, _*_, _/_, _%_, _≤_, _<_}
 use native.Mathlib.Nat.{not-suc-le-zero}
 use native.Mathlib.Numerals.{add-one}
 use native.Mathlib.Omega.{arith}
-use lib.ListN.{length, take, set, replicate, length-append, length-replicate}
+use lib.ListN.{length, take, drop, replicate, length-append, length-replicate, replicate-append-replicate}
+use lib.Seq.{drop-at}
 use Rattle.sha256.specs.Standard.{bytes, zeros, padding, pad, blockCount}
 
 -- ---- §5.1.1 in bits: a message of l = 8 n bits, the bit 1, then k zeros, "where k is the smallest, non-negative solution to the equation
@@ -42,12 +43,12 @@ pub block-count : (m : List ℕ) → blockCount m ≡ (length m + 72) / 64
 unfolding blockCount
 block-count m = rw (length-pad m) (omega arith)
 
--- ---- the padding as the code lays it out: the mark and k zeros at the front of 72 zeros, then the count of bits
+-- ---- zeros, as the code finds them in a buffer that is all zeros
 
-zeros-of : (n k : ℕ) → k ≤ n → take {A = ℕ} k (replicate n 0) ≡ replicate k 0
-zeros-of n zero h = refl
-zeros-of zero (suc k) h = absurd (not-suc-le-zero h)
-zeros-of (suc n) (suc k) h = ap (λ (l : List ℕ). 0 ∷ l) (zeros-of n k (omega arith))
+pub take-zeros : (n k : ℕ) → k ≤ n → take {A = ℕ} k (replicate n 0) ≡ replicate k 0
+take-zeros n zero h = refl
+take-zeros zero (suc k) h = absurd (not-suc-le-zero h)
+take-zeros (suc n) (suc k) h = ap (λ (l : List ℕ). 0 ∷ l) (take-zeros n k (omega arith))
 
-pub marked : (k : ℕ) → k < 72 → take {A = ℕ} (k + 1) (set (replicate 72 0) 0 0x80) ≡ 0x80 ∷ replicate k 0
-marked k h = rw add-one (ap (λ (l : List ℕ). 0x80 ∷ l) (zeros-of 71 k (omega arith)))
+pub drop-zeros : (n k : ℕ) → drop {A = ℕ} k (replicate (k + n) 0) ≡ replicate n 0
+drop-zeros n k = rw (← replicate-append-replicate {A = ℕ} k n 0) (drop-at (replicate k 0) (replicate n 0) k (length-replicate {A = ℕ} k 0))

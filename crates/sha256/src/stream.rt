@@ -4,11 +4,12 @@ use crate::block::bytes_of;
 use crate::block::compress;
 use crate::constants::initial;
 ghost use mathlib.Core.Path.{_≡_};
-ghost use mathlib.Core.List.{List, []};
+ghost use mathlib.Core.List.{List, [], _++_};
 ghost use Prim.Native.Nat.{ℕ, _+_, _%_, _<_, _≤_, _^_};
-ghost use lib.ListN.{length, take};
+ghost use lib.ListN.{length, take, replicate};
+ghost use lib.Seq.{paste};
 ghost use Rattle.sha256.specs.Standard.{bytes, zeros, padding, digestOf};
-ghost use Rattle.sha256.specs.Absorbed.{Absorbed, Absorbs};
+ghost use Rattle.sha256.specs.Absorbed.{Absorbed, Absorbs, Chained};
 
 // What has been absorbed: the hash value of the whole blocks, the bytes since, at the front of the buffer, and the count of all bytes.
 pub struct Stream {
@@ -28,64 +29,80 @@ pub fn start() -> Stream
     }
 }
 
-// Absorbs a part that does not go past the end of the block: one bounded copy into the buffer.
-fn fill(s: Stream, part: &[u8]) -> Stream
-    requires { ⌜ (s .count < 2 ^ 61) × (s .count % 64 + length (now part) ≤ 64) ⌝ }
-    ensures { λ r. ⌜ Absorbs s (now (part .entry)) r ⌝ }
+// Lays a part into a buffer, from place `at` on.
+fn lay(buffer: &mut [u8], at: usize, part: &[u8])
+    requires { ⌜ at + length (now part) ≤ length (now buffer) ⌝ }
+    ensures { λ _. ⌜ now (buffer .exit) ≡ paste (now (buffer .entry)) at (now (part .entry)) (length (now (part .entry))) ⌝ }
 {
-    let n = s.count;
-    let at = n % 64;
-    let mut buffer = s.buffer;
     let mut j: usize = 0;
     while j < part.len() {
         buffer[at + j] = part[j];
         j += 1;
     }
-    let words = s.words;
-    let count = n + part.len();
-    if at + part.len() == 64 {
-        let words = compress(words, &buffer);
-        return Stream {
-            words,
-            buffer,
-            count,
-        };
-    }
-    Stream {
-        words,
-        buffer,
-        count,
-    }
 }
 
-// Absorbs a whole block, where no byte waits.
-fn push(s: Stream, block: &[u8]) -> Stream
-    requires { ⌜ (s .count < 2 ^ 61) × (s .count % 64 ≡ 0) × (length (now block) ≡ 64) ⌝ }
-    ensures { λ r. ⌜ Absorbs s (now (block .entry)) r ⌝ }
+// Absorbs a part that does not end the block: it waits in the buffer.
+fn wait(s: Stream, part: &[u8]) -> Stream
+    requires { ⌜ (s .count < 2 ^ 61) × (s .count % 64 + length (now part) < 64) ⌝ }
+    ensures { λ r. ⌜ Absorbs s (now (part .entry)) r ⌝ }
 {
+    let n = s.count;
     let words = s.words;
-    let words = compress(words, block);
-    let buffer = s.buffer;
+    let mut buffer = s.buffer;
+    lay(&mut buffer, n % 64, part);
     Stream {
         words,
         buffer,
-        count: s.count + 64,
+        count: n + part.len(),
     }
 }
 
-// Absorbs a part, where no byte waits: whole blocks straight from the slice, then the rest.
-fn blocks(s: Stream, part: &[u8]) -> Stream
+// Absorbs a part that ends the block.
+fn fill(s: Stream, part: &[u8]) -> Stream
+    requires { ⌜ (s .count < 2 ^ 61) × (s .count % 64 + length (now part) ≡ 64) ⌝ }
+    ensures { λ r. ⌜ Absorbs s (now (part .entry)) r ⌝ }
+{
+    let n = s.count;
+    let words = s.words;
+    let mut buffer = s.buffer;
+    lay(&mut buffer, n % 64, part);
+    Stream {
+        words: compress(words, &buffer),
+        buffer,
+        count: n + part.len(),
+    }
+}
+
+// The hash value after the blocks of a part more, straight from the slice.
+fn blocks(words: Words, part: &[u8]) -> Words
+    requires { ⌜ length (now part) % 64 ≡ 0 ⌝ }
+    ensures { λ r. ⌜ ((m : List ℕ) → Chained words m → Chained r (m ++ now (part .entry))) ⌝ }
+{
+    let mut v = words;
+    let mut i: usize = 0;
+    while i < part.len() {
+        let end = i + 64;
+        v = compress(v, &part[i..end]);
+        i = end;
+    }
+    v
+}
+
+// Absorbs a part, where no byte waits: its whole blocks, then the rest.
+fn whole(s: Stream, part: &[u8]) -> Stream
     requires { ⌜ (s .count + length (now part) < 2 ^ 61) × (s .count % 64 ≡ 0) ⌝ }
     ensures { λ r. ⌜ Absorbs s (now (part .entry)) r ⌝ }
 {
-    let mut r = s;
-    let mut i: usize = 0;
-    while 64 <= part.len() - i {
-        let end = i + 64;
-        r = push(r, &part[i..end]);
-        i = end;
-    }
-    fill(r, &part[i..])
+    let end = part.len() - part.len() % 64;
+    let n = s.count;
+    let words = s.words;
+    let buffer = s.buffer;
+    let r = Stream {
+        words: blocks(words, &part[..end]),
+        buffer,
+        count: n + end,
+    };
+    wait(r, &part[end..])
 }
 
 // Absorbs a part.
@@ -95,15 +112,15 @@ pub fn absorb(s: Stream, part: &[u8]) -> Stream
 {
     let n = s.count;
     let at = n % 64;
-    if at == 0 {
-        return blocks(s, part);
-    }
     let room = 64 - at;
     if part.len() < room {
-        return fill(s, part);
+        return wait(s, part);
+    }
+    if at == 0 {
+        return whole(s, part);
     }
     let r = fill(s, &part[..room]);
-    blocks(r, &part[room..])
+    whole(r, &part[room..])
 }
 
 // The eight bytes of a number, the highest first.
@@ -122,28 +139,24 @@ fn bytes_of_count(x: u64) -> [u8; 8]
     ]
 }
 
-// The zeros of the padding of n bytes.
+// The zeros of the padding of n bytes: with the mark and the count of bits they end the block that waits, or the next.
 fn zeros_of(n: usize) -> usize
-    ensures { λ r. ⌜ (r ≡ zeros n) × (r < 64) ⌝ }
+    ensures { λ r. ⌜ (r ≡ zeros n) × (n % 64 + r ≤ 119) × ((n % 64 + r + 9) % 64 ≡ 0) ⌝ }
 {
     (119 - n % 64) % 64
 }
 
-// What pads n bytes, at the front of an array that has room for the longest.
-fn padding_of(n: usize) -> [u8; 72]
-    requires { ⌜ n < 2 ^ 60 ⌝ }
-    ensures { λ r. ⌜ take (zeros n + 9) r ≡ padding n ⌝ }
+// Lays the bytes that wait at the end of a message of n bytes, and its padding, into a buffer of zeros.
+fn lay_end(tail: &mut [u8], waiting: &[u8], n: usize)
+    requires { ⌜ (n < 2 ^ 60) × (length (now waiting) ≡ n % 64) × (now tail ≡ replicate 128 0) ⌝ }
+    ensures { λ _. ⌜ take (n % 64 + zeros n + 9) (now (tail .exit)) ≡ now (waiting .entry) ++ padding n ⌝ }
 {
-    let at = zeros_of(n) + 1;
+    let at = waiting.len();
+    let bits_at = at + zeros_of(n) + 1;
     let bits = bytes_of_count(8 * (n as u64));
-    let mut tail = [0u8; 72];
-    tail[0] = 0x80;
-    let mut j: usize = 0;
-    while j < 8 {
-        tail[at + j] = bits[j];
-        j += 1;
-    }
-    tail
+    lay(tail, 0, waiting);
+    tail[at] = 0x80;
+    lay(tail, bits_at, &bits);
 }
 
 // The digest of all that was absorbed.
@@ -152,9 +165,11 @@ pub fn finish(s: Stream) -> [u8; 32]
     ensures { λ r. ⌜ ((m : List ℕ) → Absorbed s m → r ≡ digestOf m) ⌝ }
 {
     let n = s.count;
-    let tail = padding_of(n);
-    let end = zeros_of(n) + 9;
-    let whole = absorb(s, &tail[..end]);
-    let words = whole.words;
-    bytes_of(words)
+    let at = n % 64;
+    let end = at + zeros_of(n) + 9;
+    let words = s.words;
+    let buffer = s.buffer;
+    let mut tail = [0u8; 128];
+    lay_end(&mut tail, &buffer[..at], n);
+    bytes_of(blocks(words, &tail[..end]))
 }

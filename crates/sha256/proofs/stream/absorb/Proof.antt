@@ -1,8 +1,9 @@
-use mathlib.Core.Path.{_≡_, sym}
-use mathlib.Core.List.{_++_}
-use Prim.Native.Nat.{_+_, _-_, _%_}
+use mathlib.Core.Path.{_≡_, refl, sym, ap, _∙_, subst}
+use mathlib.Core.Bool.{Bool, true, false}
+use mathlib.Core.List.{List, [], _∷_, _++_}
+use Prim.Native.Nat.{ℕ, zero, suc, _+_, _-_, _*_, _/_, _%_, _≤_, _<_}
 use native.Mathlib.Omega.{arith}
-use lib.ListN.{length, take, drop}
+use lib.ListN.{length, getD, take, drop}
 use denote.Ref.{now}
 use Rattle.sha256.proofs.Absorbing.{rest-of}
 use lib.ListN.{length-drop, take-append-drop}
@@ -11,76 +12,93 @@ use mathlib.Core.List.{append-assoc}
 use borrow.Author.Needs.{needs}
 use Rattle.sha256.proofs.stream.absorb.Statement.{statement}
 use Rattle.sha256.proofs.stream.absorb.Tie as tie
+use Rattle.sha256.proofs.stream.absorb.Reads as reads
+use Rattle.sha256.proofs.stream.absorb.Lts as lts
+use Rattle.sha256.proofs.stream.fill.Reads as fill-reads
+use Rattle.sha256.proofs.stream.wait.Reads as wait-reads
+use Rattle.sha256.proofs.stream.whole.Reads as whole-reads
 
-blocks-requires : tie.Need-blocks-requires
-blocks-requires c κs = search needs
-
-returns : tie.Need-returns
-returns c = search needs
-
+-- src/stream.rt:115:16
 sub-room : tie.Need-sub-room
 sub-room c = search needs
 
-fill-requires : tie.Need-fill-requires
-fill-requires c κs = search needs
+-- src/stream.rt:117:9
+wait-requires : tie.Need-wait-requires
+wait-requires c κs = search needs
 
+-- src/stream.rt:117:9
+returns : tie.Need-returns
+returns c = search needs
+
+-- src/stream.rt:120:9
+whole-requires : tie.Need-whole-requires
+whole-requires c κs = search needs
+
+-- src/stream.rt:120:9
 returns-2 : tie.Need-returns-2
 returns-2 c = search needs
 
+-- src/stream.rt:122:21
 slice-aggregate-fill : tie.Need-slice-aggregate-fill
 slice-aggregate-fill c = let g = c .before .before .before .before .args in
     sym (length-take-le (64 - g .s .count % 64) (now (g .part)) (omega arith))
 
-fill-requires-2 : tie.Need-fill-requires-2
-fill-requires-2 c κs = let g = c .before .before .before .before .args in
+-- src/stream.rt:122:9
+fill-requires : tie.Need-fill-requires
+fill-requires c κs = let g = c .before .before .before .before .args in
     (omega arith, omega (arith, length-take-le (64 - g .s .count % 64) (now (g .part)) (omega arith)))
 
-sub-blocks : tie.Need-sub-blocks
-sub-blocks c = search needs
+-- src/stream.rt:123:14
+sub-whole : tie.Need-sub-whole
+sub-whole c = search needs
 
-part-blocks-start : tie.Need-part-blocks-start
-part-blocks-start c = search needs
+-- src/stream.rt:123:14
+part-whole-start : tie.Need-part-whole-start
+part-whole-start c = search needs
 
-part-blocks-end : tie.Need-part-blocks-end
-part-blocks-end c = search needs
+-- src/stream.rt:123:14
+part-whole-end : tie.Need-part-whole-end
+part-whole-end c = search needs
 
-blocks-requires-2 : tie.Need-blocks-requires-2
-blocks-requires-2 c κs = let g = c .before .before .before .before .before .before .args in
+-- src/stream.rt:123:5
+whole-requires-2 : tie.Need-whole-requires-2
+whole-requires-2 c κs = let g = c .before .before .before .before .before .before .args in
     let p = now (g .part) in
     let i = 64 - g .s .count % 64 in
     let front : length (take i p) ≡ i = length-take-le i p (omega arith) in
     let rest : length (take (length p - i) (drop i p)) ≡ length p - i = rw (rest-of p i) (length-drop i p) in
-    let f : c .before .fill2 .result .count ≡ g .s .count + length (take i p) = c .before .fill2 .ensures .count in
+    let f : c .before .fill .result .count ≡ g .s .count + length (take i p) = c .before .fill .ensures .count in
     (omega arith, omega arith)
 
+-- src/stream.rt:109:1
 returns-3 : tie.Need-returns-3
 returns-3 c = let g = c .before .before .before .before .before .before .before .args in
     let p = now (g .part) in
     let i = 64 - g .s .count % 64 in
     let front : length (take i p) ≡ i = length-take-le i p (omega arith) in
     let rest : length (take (length p - i) (drop i p)) ≡ length p - i = rw (rest-of p i) (length-drop i p) in
-    let f : c .before .before .fill2 .result .count ≡ g .s .count + length (take i p) = c .before .before .fill2 .ensures .count in
+    let f : c .before .before .fill .result .count ≡ g .s .count + length (take i p) = c .before .before .fill .ensures .count in
     record {
-      count = omega (arith, c .blocks3 .ensures .count);
+      count = omega (arith, c .whole2 .ensures .count);
       message =
           λ m k.
           rw (rest-of p i, append-assoc m (take i p) (drop i p), take-append-drop i p) at
-          (c .blocks3 .ensures .message (m ++ take i p) (c .before .before .fill2 .ensures .message m k));
+          (c .whole2 .ensures .message (m ++ take i p) (c .before .before .fill .ensures .message m k));
     }
 
 pub absorb-spec : {M : Type 1} → statement M
 absorb-spec =
     tie.close
     (tie.spec
-    blocks-requires
-    returns
     sub-room
-    fill-requires
+    wait-requires
+    returns
+    whole-requires
     returns-2
     slice-aggregate-fill
-    fill-requires-2
-    sub-blocks
-    part-blocks-start
-    part-blocks-end
-    blocks-requires-2
+    fill-requires
+    sub-whole
+    part-whole-start
+    part-whole-end
+    whole-requires-2
     returns-3)

@@ -1,57 +1,101 @@
-use mathlib.Core.Path.{_≡_, sym, _∙_}
-use Prim.Native.Nat.{_+_}
+use mathlib.Core.Path.{_≡_, refl, sym, ap, _∙_, subst}
+use mathlib.Core.Bool.{Bool, true, false}
+use mathlib.Core.List.{List, [], _∷_, _++_}
+use Prim.Native.Nat.{ℕ, zero, suc, _+_, _-_, _*_, _/_, _%_, _≤_, _<_}
 use native.Mathlib.Omega.{arith}
-use lib.ListN.{length, take}
-use Rattle.sha256.proofs.Absorbing.{digested}
+use lib.ListN.{length, getD, take, drop}
+use denote.Ref.{now}
+use Rattle.sha256.proofs.Absorbing.{chained, rejoined, wholeOf, digested}
 use Rattle.sha256.specs.Standard.{padding}
 use lib.Seq.{length-take-le}
 use borrow.Author.Needs.{needs}
 use Rattle.sha256.proofs.stream.finish.Statement.{statement}
 use Rattle.sha256.proofs.stream.finish.Tie as tie
+use Rattle.sha256.proofs.stream.finish.Reads as reads
+use Rattle.sha256.proofs.stream.finish.Lts as lts
+use Rattle.sha256.proofs.block.bytes_of.Reads as bytes-of-reads
+use Rattle.sha256.proofs.stream.blocks.Reads as blocks-reads
+use Rattle.sha256.proofs.stream.lay_end.Reads as lay-end-reads
+use Rattle.sha256.proofs.stream.zeros_of.Reads as zeros-of-reads
 
-padding-of-requires : tie.Need-padding-of-requires
-padding-of-requires c κs = search needs
-
+-- src/stream.rt:169:20
 zeros-of-requires : tie.Need-zeros-of-requires
 zeros-of-requires c κs = search needs
 
+-- src/stream.rt:169:15
 add-end : tie.Need-add-end
 add-end c = search needs
 
+-- src/stream.rt:169:15
+add-end-2 : tie.Need-add-end-2
+add-end-2 c = search needs
+
+-- src/stream.rt:173:13
+slice-aggregate-lay-end : tie.Need-slice-aggregate-lay-end
+slice-aggregate-lay-end c = search needs
+
+-- src/stream.rt:173:24
+array-share-prefix-buffer : tie.Need-array-share-prefix-buffer
+array-share-prefix-buffer c = let size : length (c .before .before .before .before .args .s .buffer) ≡ 64 = search needs in
+    omega arith
+
+-- src/stream.rt:173:24
+slice-aggregate-lay-end-2 : tie.Need-slice-aggregate-lay-end-2
+slice-aggregate-lay-end-2 c = let s = c .before .before .before .before .before .args .s in
+    let size : length (s .buffer) ≡ 64 = search needs in
+    sym (length-take-le (s .count % 64) (s .buffer) (omega arith))
+
+-- src/stream.rt:173:5
+lay-end-requires : tie.Need-lay-end-requires
+lay-end-requires c κs = let s = c .before .before .before .before .before .args .s in
+    let size : length (s .buffer) ≡ 64 = search needs in
+    (omega arith, length-take-le (s .count % 64) (s .buffer) (omega arith), refl)
+
+-- src/stream.rt:174:28
 array-share-prefix-tail : tie.Need-array-share-prefix-tail
-array-share-prefix-tail c = search needs
+array-share-prefix-tail c = let size : length (c .before .lay-end .last .0) ≡ 128 = c .before .lay-end .kept .0 in
+    omega (arith, c .before .before .before .before .before .before .zeros-of .ensures .1)
 
-slice-aggregate-absorb : tie.Need-slice-aggregate-absorb
-slice-aggregate-absorb c = let t = c .before .before .padding-of .result in
-    let k = c .before .zeros-of .result in
-    let size : length t ≡ 72 = search needs in
-    sym (length-take-le (k + 9) t (omega arith))
+-- src/stream.rt:174:28
+slice-aggregate-blocks : tie.Need-slice-aggregate-blocks
+slice-aggregate-blocks c = let t = c .before .before .lay-end .last .0 in
+    let size : length t ≡ 128 = c .before .before .lay-end .kept .0 in
+    sym (length-take-le (c .before .before .before .before .before .before .before .before .args .s .count % 64 + c .before .before .before .before .before .before .before .zeros-of .result + 9) t (omega (arith, c .before .before .before .before .before .before .before .zeros-of .ensures .1)))
 
-absorb-requires : tie.Need-absorb-requires
-absorb-requires c κs = let t = c .before .before .padding-of .result in
-    let k = c .before .zeros-of .result in
-    let size : length t ≡ 72 = search needs in
-    omega (arith, length-take-le (k + 9) t (omega arith))
+-- src/stream.rt:174:14
+blocks-requires : tie.Need-blocks-requires
+blocks-requires c κs = let t = c .before .before .lay-end .last .0 in
+    let size : length t ≡ 128 = c .before .before .lay-end .kept .0 in
+    omega (arith, c .before .before .before .before .before .before .before .zeros-of .ensures .2, length-take-le (c .before .before .before .before .before .before .before .before .args .s .count % 64 + c .before .before .before .before .before .before .before .zeros-of .result + 9) t (omega (arith, c .before .before .before .before .before .before .before .zeros-of .ensures .1)))
 
+-- src/stream.rt:174:5
 bytes-of-requires : tie.Need-bytes-of-requires
 bytes-of-requires c κs = search needs
 
+-- src/stream.rt:163:1
 returns : tie.Need-returns
 returns c = λ m k.
-    let q = c .before .before .before .before in
-    let t = take (q .zeros-of .result + 9) (q .before .padding-of .result) in
-    let e : t ≡ padding (length m) = rw (q .zeros-of .ensures .0, ← k .count) (q .before .padding-of .ensures) in
-    c .bytes-of .ensures ∙ digested (c .before .before .absorb .result) m t e (c .before .before .absorb .ensures .message m k)
+    let s = c .before .before .before .before .before .before .before .before .before .before .args .s in
+    let z = c .before .before .before .before .before .before .before .before .before .zeros-of in
+    let t = take (s .count % 64 + z .result + 9) (c .before .before .before .before .lay-end .last .0) in
+    let e : t ≡ take (s .count % 64) (s .buffer) ++ padding (s .count) = rw (z .ensures .0) (c .before .before .before .before .lay-end .ensures) in
+    let j : wholeOf m ++ t ≡ m ++ padding (length m) =
+    ap (λ (l : List ℕ). wholeOf m ++ l) e ∙ rejoined s m (padding (s .count)) k ∙ ap (λ (n : ℕ). m ++ padding n) (k .count) in
+    c .bytes-of .ensures ∙ digested (c .before .blocks2 .result) m (rw j at (c .before .blocks2 .ensures (wholeOf m) (chained s m k)))
 
 pub finish-spec : {M : Type 1} → statement M
 finish-spec =
     tie.close
     (tie.spec
-    padding-of-requires
     zeros-of-requires
     add-end
+    add-end-2
+    slice-aggregate-lay-end
+    array-share-prefix-buffer
+    slice-aggregate-lay-end-2
+    lay-end-requires
     array-share-prefix-tail
-    slice-aggregate-absorb
-    absorb-requires
+    slice-aggregate-blocks
+    blocks-requires
     bytes-of-requires
     returns)

@@ -10,7 +10,7 @@ sub-result c = search needs
 
 returns : tie.Need-returns
 unfolding zeros
-returns c = (refl, omega arith)
+returns c = (refl, omega arith, omega arith)
 
 pub zeros-of-spec : {M : Type 1} → statement M
 zeros-of-spec = tie.close (tie.spec sub-result returns)

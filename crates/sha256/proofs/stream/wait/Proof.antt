@@ -1,0 +1,39 @@
+use mathlib.Core.Path.{_≡_, refl, sym, ap, _∙_, subst}
+use mathlib.Core.Bool.{Bool, true, false}
+use mathlib.Core.List.{List, [], _∷_, _++_}
+use Prim.Native.Nat.{ℕ, zero, suc, _+_, _-_, _*_, _/_, _%_, _≤_, _<_}
+use native.Mathlib.Omega.{arith}
+use lib.ListN.{length, getD, take, drop}
+use denote.Ref.{now}
+use Rattle.sha256.proofs.Absorbing.{laid, waited}
+use borrow.Author.Needs.{needs}
+use Rattle.sha256.proofs.stream.wait.Statement.{statement}
+use Rattle.sha256.proofs.stream.wait.Tie as tie
+use Rattle.sha256.proofs.stream.wait.Reads as reads
+use Rattle.sha256.proofs.stream.wait.Lts as lts
+use Rattle.sha256.proofs.stream.lay.Reads as lay-reads
+
+-- src/stream.rt:52:9
+slice-aggregate-lay : tie.Need-slice-aggregate-lay
+slice-aggregate-lay c = search needs
+
+-- src/stream.rt:52:5
+lay-requires : tie.Need-lay-requires
+lay-requires c κs = let size : length (c .before .before .before .before .args .s .buffer) ≡ 64 = search needs in
+    omega arith
+
+-- src/stream.rt:56:16
+add-t11 : tie.Need-add-t11
+add-t11 c = search needs
+
+-- src/stream.rt:45:1
+returns : tie.Need-returns
+returns c = let g = c .before .before .before .before .before .before .args in
+    let size : length (g .s .buffer) ≡ 64 = search needs in
+    let y = now (g .part) in
+    let front : take (g .s .count % 64 + length y) (c .before .lay .last .0) ≡ take (g .s .count % 64) (g .s .buffer) ++ y =
+    rw (c .before .lay .ensures) (laid (g .s .buffer) y (g .s .count % 64) (omega arith)) in
+    record { count = refl; message = λ m k. waited (g .s) m y (c .before .lay .last .0) k front (omega arith) }
+
+pub wait-spec : {M : Type 1} → statement M
+wait-spec = tie.close (tie.spec slice-aggregate-lay lay-requires add-t11 returns)

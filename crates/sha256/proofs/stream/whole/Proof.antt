@@ -1,0 +1,90 @@
+use mathlib.Core.Path.{_≡_, refl, sym, ap, _∙_, subst}
+use mathlib.Core.Bool.{Bool, true, false}
+use mathlib.Core.List.{List, [], _∷_, _++_}
+use Prim.Native.Nat.{ℕ, zero, suc, _+_, _-_, _*_, _/_, _%_, _≤_, _<_}
+use native.Mathlib.Omega.{arith}
+use lib.ListN.{length, getD, take, drop}
+use denote.Ref.{now}
+use Rattle.sha256.proofs.Absorbing.{rest-of, none-waits, absorbed}
+use lib.ListN.{length-drop, take-append-drop, length-append}
+use lib.Seq.{length-take-le}
+use mathlib.Core.List.{append-assoc}
+use borrow.Author.Needs.{needs}
+use Rattle.sha256.proofs.stream.whole.Statement.{statement}
+use Rattle.sha256.proofs.stream.whole.Tie as tie
+use Rattle.sha256.proofs.stream.whole.Reads as reads
+use Rattle.sha256.proofs.stream.whole.Lts as lts
+use Rattle.sha256.proofs.stream.blocks.Reads as blocks-reads
+use Rattle.sha256.proofs.stream.wait.Reads as wait-reads
+
+-- src/stream.rt:96:15
+sub-end : tie.Need-sub-end
+sub-end c = search needs
+
+-- src/stream.rt:101:30
+slice-aggregate-blocks : tie.Need-slice-aggregate-blocks
+slice-aggregate-blocks c = let g = c .before .before .before .before .args in
+    let p = now (g .part) in
+    let i = length p - length p % 64 in
+    let front : length (take i p) ≡ i = length-take-le i p (omega arith) in
+    sym front
+
+-- src/stream.rt:101:16
+blocks-requires : tie.Need-blocks-requires
+blocks-requires c κs = let g = c .before .before .before .before .args in
+    let p = now (g .part) in
+    let i = length p - length p % 64 in
+    let front : length (take i p) ≡ i = length-take-le i p (omega arith) in
+    omega arith
+
+-- src/stream.rt:103:16
+add-t8 : tie.Need-add-t8
+add-t8 c = search needs
+
+-- src/stream.rt:105:13
+sub-wait : tie.Need-sub-wait
+sub-wait c = search needs
+
+-- src/stream.rt:105:13
+part-wait-start : tie.Need-part-wait-start
+part-wait-start c = search needs
+
+-- src/stream.rt:105:13
+part-wait-end : tie.Need-part-wait-end
+part-wait-end c = search needs
+
+-- src/stream.rt:105:5
+wait-requires : tie.Need-wait-requires
+wait-requires c κs = search needs
+
+-- src/stream.rt:92:1
+returns : tie.Need-returns
+returns c = let g = c .before .before .before .before .before .before .before .args in
+    let p = now (g .part) in
+    let i = length p - length p % 64 in
+    let front : length (take i p) ≡ i = length-take-le i p (omega arith) in
+    let rest : length (take (length p - i) (drop i p)) ≡ length p - i = rw (rest-of p i) (length-drop i p) in
+    record {
+      count = omega (arith, c .wait .ensures .count);
+      message =
+          λ m k.
+          let n : g .s .count ≡ length m = k .count in
+          let e : length (m ++ take i p) ≡ length m + length (take i p) = length-append m (take i p) in
+          let h = c .before .before .blocks2 .ensures m (none-waits (g .s) m k (omega arith)) in
+          rw (rest-of p i, append-assoc m (take i p) (drop i p), take-append-drop i p) at
+          (c .wait .ensures .message (m ++ take i p) (absorbed _ (m ++ take i p) (omega arith) h));
+    }
+
+pub whole-spec : {M : Type 1} → statement M
+whole-spec =
+    tie.close
+    (tie.spec
+    sub-end
+    slice-aggregate-blocks
+    blocks-requires
+    add-t8
+    sub-wait
+    part-wait-start
+    part-wait-end
+    wait-requires
+    returns)
