@@ -81,7 +81,7 @@ fn turn(s: Words, k: u32, w: u32) -> Words
     }
 }
 
-// Step 3: the 64 turns, two at a time, so that compiled code moves fewer working variables from register to register.
+// Step 3: the 64 turns, four at a time, so that compiled code moves fewer working variables from register to register.
 fn turns(v: Words, w: &[u32; 64]) -> Words
     ensures { λ r. ⌜ r ≡ turnsOf (now (w .entry)) 64 v ⌝ }
 {
@@ -89,10 +89,11 @@ fn turns(v: Words, w: &[u32; 64]) -> Words
     let mut s = v;
     let mut t = 0;
     while t < 64 {
-        let u = t + 1;
         s = turn(s, k[t], w[t]);
-        s = turn(s, k[u], w[u]);
-        t += 2;
+        s = turn(s, k[t + 1], w[t + 1]);
+        s = turn(s, k[t + 2], w[t + 2]);
+        s = turn(s, k[t + 3], w[t + 3]);
+        t += 4;
     }
     s
 }

@@ -1,9 +1,8 @@
-use mathlib.Core.Path.{_≡_, refl, sym, ap, _∙_, subst}
-use mathlib.Core.Bool.{Bool, true, false}
-use mathlib.Core.List.{List, [], _∷_, _++_}
-use Prim.Native.Nat.{ℕ, zero, suc, _+_, _-_, _*_, _/_, _%_, _≤_, _<_}
+use mathlib.Core.Path.{_≡_, sym}
+use mathlib.Core.List.{_++_}
+use Prim.Native.Nat.{_+_, _-_, _%_}
 use native.Mathlib.Omega.{arith}
-use lib.ListN.{length, getD, take, drop}
+use lib.ListN.{length, take, drop}
 use denote.Ref.{now}
 use Rattle.sha256.proofs.Absorbing.{rest-of}
 use lib.ListN.{length-drop, take-append-drop}
@@ -12,55 +11,39 @@ use mathlib.Core.List.{append-assoc}
 use borrow.Author.Needs.{needs}
 use Rattle.sha256.proofs.stream.absorb.Statement.{statement}
 use Rattle.sha256.proofs.stream.absorb.Tie as tie
-use Rattle.sha256.proofs.stream.absorb.Reads as reads
-use Rattle.sha256.proofs.stream.absorb.Lts as lts
-use Rattle.sha256.proofs.stream.fill.Reads as fill-reads
-use Rattle.sha256.proofs.stream.wait.Reads as wait-reads
-use Rattle.sha256.proofs.stream.whole.Reads as whole-reads
 
--- src/stream.rt:115:16
 sub-room : tie.Need-sub-room
 sub-room c = search needs
 
--- src/stream.rt:117:9
 wait-requires : tie.Need-wait-requires
 wait-requires c κs = search needs
 
--- src/stream.rt:117:9
 returns : tie.Need-returns
 returns c = search needs
 
--- src/stream.rt:120:9
 whole-requires : tie.Need-whole-requires
 whole-requires c κs = search needs
 
--- src/stream.rt:120:9
 returns-2 : tie.Need-returns-2
 returns-2 c = search needs
 
--- src/stream.rt:122:21
 slice-aggregate-fill : tie.Need-slice-aggregate-fill
 slice-aggregate-fill c = let g = c .before .before .before .before .args in
     sym (length-take-le (64 - g .s .count % 64) (now (g .part)) (omega arith))
 
--- src/stream.rt:122:9
 fill-requires : tie.Need-fill-requires
 fill-requires c κs = let g = c .before .before .before .before .args in
     (omega arith, omega (arith, length-take-le (64 - g .s .count % 64) (now (g .part)) (omega arith)))
 
--- src/stream.rt:123:14
 sub-whole : tie.Need-sub-whole
 sub-whole c = search needs
 
--- src/stream.rt:123:14
 part-whole-start : tie.Need-part-whole-start
 part-whole-start c = search needs
 
--- src/stream.rt:123:14
 part-whole-end : tie.Need-part-whole-end
 part-whole-end c = search needs
 
--- src/stream.rt:123:5
 whole-requires-2 : tie.Need-whole-requires-2
 whole-requires-2 c κs = let g = c .before .before .before .before .before .before .args in
     let p = now (g .part) in
@@ -70,7 +53,6 @@ whole-requires-2 c κs = let g = c .before .before .before .before .before .befo
     let f : c .before .fill .result .count ≡ g .s .count + length (take i p) = c .before .fill .ensures .count in
     (omega arith, omega arith)
 
--- src/stream.rt:109:1
 returns-3 : tie.Need-returns-3
 returns-3 c = let g = c .before .before .before .before .before .before .before .args in
     let p = now (g .part) in

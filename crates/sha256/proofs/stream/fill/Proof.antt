@@ -1,41 +1,30 @@
-use mathlib.Core.Path.{_≡_, refl, sym, ap, _∙_, subst}
-use mathlib.Core.Bool.{Bool, true, false}
-use mathlib.Core.List.{List, [], _∷_, _++_}
-use Prim.Native.Nat.{ℕ, zero, suc, _+_, _-_, _*_, _/_, _%_, _≤_, _<_}
+use mathlib.Core.Path.{_≡_, refl}
+use mathlib.Core.List.{_++_}
+use Prim.Native.Nat.{_+_, _%_}
 use native.Mathlib.Omega.{arith}
-use lib.ListN.{length, getD, take, drop}
+use lib.ListN.{length, take}
 use denote.Ref.{now}
 use Rattle.sha256.proofs.Absorbing.{laid, filled}
 use borrow.Author.Needs.{needs}
 use Rattle.sha256.proofs.stream.fill.Statement.{statement}
 use Rattle.sha256.proofs.stream.fill.Tie as tie
-use Rattle.sha256.proofs.stream.fill.Reads as reads
-use Rattle.sha256.proofs.stream.fill.Lts as lts
-use Rattle.sha256.proofs.block.compress.Reads as compress-reads
-use Rattle.sha256.proofs.stream.lay.Reads as lay-reads
 
--- src/stream.rt:68:9
 slice-aggregate-lay : tie.Need-slice-aggregate-lay
 slice-aggregate-lay c = search needs
 
--- src/stream.rt:68:5
 lay-requires : tie.Need-lay-requires
 lay-requires c κs = let size : length (c .before .before .before .before .args .s .buffer) ≡ 64 = search needs in
     omega arith
 
--- src/stream.rt:70:32
 slice-aggregate-compress : tie.Need-slice-aggregate-compress
 slice-aggregate-compress c = search needs
 
--- src/stream.rt:70:16
 compress-requires : tie.Need-compress-requires
 compress-requires c κs = search needs
 
--- src/stream.rt:72:16
 add-t14 : tie.Need-add-t14
 add-t14 c = search needs
 
--- src/stream.rt:61:1
 returns : tie.Need-returns
 returns c = let g = c .before .before .before .before .before .before .before .before .args in
     let size : length (g .s .buffer) ≡ 64 = search needs in

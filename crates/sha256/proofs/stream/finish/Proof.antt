@@ -1,78 +1,58 @@
-use mathlib.Core.Path.{_≡_, refl, sym, ap, _∙_, subst}
-use mathlib.Core.Bool.{Bool, true, false}
-use mathlib.Core.List.{List, [], _∷_, _++_}
-use Prim.Native.Nat.{ℕ, zero, suc, _+_, _-_, _*_, _/_, _%_, _≤_, _<_}
+use mathlib.Core.Path.{_≡_, refl, sym, ap, _∙_}
+use mathlib.Core.List.{List, _++_}
+use Prim.Native.Nat.{ℕ, _+_, _%_}
 use native.Mathlib.Omega.{arith}
-use lib.ListN.{length, getD, take, drop}
-use denote.Ref.{now}
+use lib.ListN.{length, take}
 use Rattle.sha256.proofs.Absorbing.{chained, rejoined, wholeOf, digested}
 use Rattle.sha256.specs.Standard.{padding}
 use lib.Seq.{length-take-le}
 use borrow.Author.Needs.{needs}
 use Rattle.sha256.proofs.stream.finish.Statement.{statement}
 use Rattle.sha256.proofs.stream.finish.Tie as tie
-use Rattle.sha256.proofs.stream.finish.Reads as reads
-use Rattle.sha256.proofs.stream.finish.Lts as lts
-use Rattle.sha256.proofs.block.bytes_of.Reads as bytes-of-reads
-use Rattle.sha256.proofs.stream.blocks.Reads as blocks-reads
-use Rattle.sha256.proofs.stream.lay_end.Reads as lay-end-reads
-use Rattle.sha256.proofs.stream.zeros_of.Reads as zeros-of-reads
 
--- src/stream.rt:169:20
 zeros-of-requires : tie.Need-zeros-of-requires
 zeros-of-requires c κs = search needs
 
--- src/stream.rt:169:15
 add-end : tie.Need-add-end
 add-end c = search needs
 
--- src/stream.rt:169:15
 add-end-2 : tie.Need-add-end-2
 add-end-2 c = search needs
 
--- src/stream.rt:173:13
 slice-aggregate-lay-end : tie.Need-slice-aggregate-lay-end
 slice-aggregate-lay-end c = search needs
 
--- src/stream.rt:173:24
 array-share-prefix-buffer : tie.Need-array-share-prefix-buffer
 array-share-prefix-buffer c = let size : length (c .before .before .before .before .args .s .buffer) ≡ 64 = search needs in
     omega arith
 
--- src/stream.rt:173:24
 slice-aggregate-lay-end-2 : tie.Need-slice-aggregate-lay-end-2
 slice-aggregate-lay-end-2 c = let s = c .before .before .before .before .before .args .s in
     let size : length (s .buffer) ≡ 64 = search needs in
     sym (length-take-le (s .count % 64) (s .buffer) (omega arith))
 
--- src/stream.rt:173:5
 lay-end-requires : tie.Need-lay-end-requires
 lay-end-requires c κs = let s = c .before .before .before .before .before .args .s in
     let size : length (s .buffer) ≡ 64 = search needs in
     (omega arith, length-take-le (s .count % 64) (s .buffer) (omega arith), refl)
 
--- src/stream.rt:174:28
 array-share-prefix-tail : tie.Need-array-share-prefix-tail
 array-share-prefix-tail c = let size : length (c .before .lay-end .last .0) ≡ 128 = c .before .lay-end .kept .0 in
     omega (arith, c .before .before .before .before .before .before .zeros-of .ensures .1)
 
--- src/stream.rt:174:28
 slice-aggregate-blocks : tie.Need-slice-aggregate-blocks
 slice-aggregate-blocks c = let t = c .before .before .lay-end .last .0 in
     let size : length t ≡ 128 = c .before .before .lay-end .kept .0 in
     sym (length-take-le (c .before .before .before .before .before .before .before .before .args .s .count % 64 + c .before .before .before .before .before .before .before .zeros-of .result + 9) t (omega (arith, c .before .before .before .before .before .before .before .zeros-of .ensures .1)))
 
--- src/stream.rt:174:14
 blocks-requires : tie.Need-blocks-requires
 blocks-requires c κs = let t = c .before .before .lay-end .last .0 in
     let size : length t ≡ 128 = c .before .before .lay-end .kept .0 in
     omega (arith, c .before .before .before .before .before .before .before .zeros-of .ensures .2, length-take-le (c .before .before .before .before .before .before .before .before .args .s .count % 64 + c .before .before .before .before .before .before .before .zeros-of .result + 9) t (omega (arith, c .before .before .before .before .before .before .before .zeros-of .ensures .1)))
 
--- src/stream.rt:174:5
 bytes-of-requires : tie.Need-bytes-of-requires
 bytes-of-requires c κs = search needs
 
--- src/stream.rt:163:1
 returns : tie.Need-returns
 returns c = λ m k.
     let s = c .before .before .before .before .before .before .before .before .before .before .args .s in

@@ -1,18 +1,14 @@
 use borrow.Author.Needs.{needs}
-use mathlib.Core.Path.{_≡_, refl, sym, ap, _∙_, subst}
-use mathlib.Core.Bool.{Bool, true, false}
-use mathlib.Core.List.{List, [], _∷_, _++_}
-use Prim.Native.Nat.{ℕ, zero, suc, _+_, _-_, _*_, _/_, _%_, _≤_, _<_}
+use mathlib.Core.Path.{_≡_, refl}
+use Prim.Native.Nat.{_-_, _≤_}
 use native.Mathlib.Omega.{arith}
-use lib.ListN.{length, getD, take, drop}
+use lib.ListN.{length}
 use denote.Ref.{now}
 use lib.Seq.{paste, paste-zero, paste-suc}
 use native.Mathlib.Numerals.{add-one}
 use lib.ListN.{length-set}
 use Rattle.sha256.proofs.stream.lay.Statement.{statement}
 use Rattle.sha256.proofs.stream.lay.Tie as tie
-use Rattle.sha256.proofs.stream.lay.Reads as reads
-use Rattle.sha256.proofs.stream.lay.Lts as lts
 
 abbrev Inv-loop : tie.InvT-loop
 Inv-loop buffer₀ at part j₀ buffer j = (j ≤ length part) × (length buffer ≡ length buffer₀) × (buffer ≡ paste buffer₀ at part j)
@@ -20,31 +16,24 @@ Inv-loop buffer₀ at part j₀ buffer j = (j ≤ length part) × (length buffer
 abbrev μ-loop : tie.MeasureT-loop
 μ-loop buffer₀ at part j₀ buffer j = length part - j
 
--- src/stream.rt:37:5
 loop-holds : tie.Need-loop-holds Inv-loop μ-loop
 loop-holds c = (omega arith, refl, paste-zero (now (c .args .buffer)) (c .args .at) (now (c .args .part)))
 
--- src/stream.rt:38:26
 shared-slice-read-buffer : tie.Need-shared-slice-read-buffer Inv-loop μ-loop
 shared-slice-read-buffer c = search needs
 
--- src/stream.rt:38:16
 add-buffer : tie.Need-add-buffer Inv-loop μ-loop
 add-buffer c = search needs
 
--- src/stream.rt:38:9
 slice-write-buffer : tie.Need-slice-write-buffer Inv-loop μ-loop
 slice-write-buffer c = search needs
 
--- src/stream.rt:39:9
 add-j : tie.Need-add-j Inv-loop μ-loop
 add-j c = search needs
 
--- src/stream.rt:37:5
 loop-less : tie.Need-loop-less Inv-loop μ-loop
 loop-less c = search needs
 
--- src/stream.rt:37:5
 loop-again : tie.Need-loop-again Inv-loop μ-loop
 loop-again c = let l = c .before .before in
     let g = l .before .args in
@@ -54,11 +43,9 @@ loop-again c = let l = c .before .before in
       rw (add-one, l .loop .inv .2) (paste-suc (now (g .buffer)) (g .at) (now (g .part)) j 0 (omega arith) (omega arith)),
     )
 
--- src/stream.rt:32:1
 same-length : tie.Need-same-length Inv-loop μ-loop
 same-length c = search needs
 
--- src/stream.rt:32:1
 returns : tie.Need-returns Inv-loop μ-loop
 returns c = let l = c .before in
     let e : l .loop .j ≡ length (now (l .before .args .part)) = omega arith in

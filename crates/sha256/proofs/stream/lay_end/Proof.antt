@@ -1,9 +1,7 @@
-use mathlib.Core.Path.{_≡_, refl, sym, ap, _∙_, subst}
-use mathlib.Core.Bool.{Bool, true, false}
-use mathlib.Core.List.{List, [], _∷_, _++_}
-use Prim.Native.Nat.{ℕ, zero, suc, _+_, _-_, _*_, _/_, _%_, _≤_, _<_}
+use mathlib.Core.Path.{_≡_, ap, _∙_}
+use Prim.Native.Nat.{ℕ, suc, _+_, _-_, _%_}
 use native.Mathlib.Omega.{arith}
-use lib.ListN.{length, getD, take, drop}
+use lib.ListN.{length}
 use denote.Ref.{now}
 use Rattle.sha256.proofs.Absorbing.{ended}
 use Rattle.sha256.specs.Standard.{padding}
@@ -12,60 +10,44 @@ use lib.Seq.{paste}
 use borrow.Author.Needs.{needs}
 use Rattle.sha256.proofs.stream.lay_end.Statement.{statement}
 use Rattle.sha256.proofs.stream.lay_end.Tie as tie
-use Rattle.sha256.proofs.stream.lay_end.Reads as reads
-use Rattle.sha256.proofs.stream.lay_end.Lts as lts
-use Rattle.sha256.proofs.stream.bytes_of_count.Reads as bytes-of-count-reads
-use Rattle.sha256.proofs.stream.lay.Reads as lay-reads
-use Rattle.sha256.proofs.stream.zeros_of.Reads as zeros-of-reads
 
--- src/stream.rt:155:24
 zeros-of-requires : tie.Need-zeros-of-requires
 zeros-of-requires c κs = search needs
 
--- src/stream.rt:155:19
 add-bits-at : tie.Need-add-bits-at
 add-bits-at c = search needs
 
--- src/stream.rt:155:19
 add-bits-at-2 : tie.Need-add-bits-at-2
 add-bits-at-2 c = search needs
 
--- src/stream.rt:156:31
 mul-bytes-of-count : tie.Need-mul-bytes-of-count
 mul-bytes-of-count c = search needs
 
--- src/stream.rt:156:16
 bytes-of-count-requires : tie.Need-bytes-of-count-requires
 bytes-of-count-requires c κs = search needs
 
--- src/stream.rt:157:5
 lay-requires : tie.Need-lay-requires
 lay-requires c κs = let p = c .before .before .before .before .before in
     let size : length (now (p .args .tail)) ≡ 128 = ap length (p .pre .2) in
     omega arith
 
--- src/stream.rt:158:5
 slice-write-tail : tie.Need-slice-write-tail
 slice-write-tail c = let p = c .before .before .before .before .before .before .before .before in
     let size : length (now (p .args .tail)) ≡ 128 = ap length (p .pre .2) in
     omega arith
 
--- src/stream.rt:159:24
 slice-aggregate-lay : tie.Need-slice-aggregate-lay
 slice-aggregate-lay c = search needs
 
--- src/stream.rt:159:5
 lay-requires-2 : tie.Need-lay-requires-2
 lay-requires-2 c κs = let p = c .before .before .before .before .before .before .before .before .before .before in
     let size : length (now (p .args .tail)) ≡ 128 = ap length (p .pre .2) in
     let eight : length (c .before .before .before .before .before .before .bytes-of-count .result) ≡ 8 = search needs in
     simp length-set (omega (arith, c .before .before .before .before .lay .kept .0, c .before .before .before .before .before .before .before .zeros-of .ensures .1))
 
--- src/stream.rt:150:1
 same-length : tie.Need-same-length
 same-length c = c .before .before .lay2 .kept .0 ∙ simp length-set (c .before .before .before .before .before .before .before .lay .kept .0)
 
--- src/stream.rt:150:1
 returns : tie.Need-returns
 unfolding padding
 returns c = let p = c .before .before .before .before .before .before .before .before .before .before .before .before .before in

@@ -1,9 +1,8 @@
-use mathlib.Core.Path.{_≡_, refl, sym, ap, _∙_, subst}
-use mathlib.Core.Bool.{Bool, true, false}
-use mathlib.Core.List.{List, [], _∷_, _++_}
-use Prim.Native.Nat.{ℕ, zero, suc, _+_, _-_, _*_, _/_, _%_, _≤_, _<_}
+use mathlib.Core.Path.{_≡_, sym}
+use mathlib.Core.List.{_++_}
+use Prim.Native.Nat.{_+_, _-_, _%_}
 use native.Mathlib.Omega.{arith}
-use lib.ListN.{length, getD, take, drop}
+use lib.ListN.{length, take, drop}
 use denote.Ref.{now}
 use Rattle.sha256.proofs.Absorbing.{rest-of, none-waits, absorbed}
 use lib.ListN.{length-drop, take-append-drop, length-append}
@@ -12,16 +11,10 @@ use mathlib.Core.List.{append-assoc}
 use borrow.Author.Needs.{needs}
 use Rattle.sha256.proofs.stream.whole.Statement.{statement}
 use Rattle.sha256.proofs.stream.whole.Tie as tie
-use Rattle.sha256.proofs.stream.whole.Reads as reads
-use Rattle.sha256.proofs.stream.whole.Lts as lts
-use Rattle.sha256.proofs.stream.blocks.Reads as blocks-reads
-use Rattle.sha256.proofs.stream.wait.Reads as wait-reads
 
--- src/stream.rt:96:15
 sub-end : tie.Need-sub-end
 sub-end c = search needs
 
--- src/stream.rt:101:30
 slice-aggregate-blocks : tie.Need-slice-aggregate-blocks
 slice-aggregate-blocks c = let g = c .before .before .before .before .args in
     let p = now (g .part) in
@@ -29,7 +22,6 @@ slice-aggregate-blocks c = let g = c .before .before .before .before .args in
     let front : length (take i p) ≡ i = length-take-le i p (omega arith) in
     sym front
 
--- src/stream.rt:101:16
 blocks-requires : tie.Need-blocks-requires
 blocks-requires c κs = let g = c .before .before .before .before .args in
     let p = now (g .part) in
@@ -37,27 +29,21 @@ blocks-requires c κs = let g = c .before .before .before .before .args in
     let front : length (take i p) ≡ i = length-take-le i p (omega arith) in
     omega arith
 
--- src/stream.rt:103:16
 add-t8 : tie.Need-add-t8
 add-t8 c = search needs
 
--- src/stream.rt:105:13
 sub-wait : tie.Need-sub-wait
 sub-wait c = search needs
 
--- src/stream.rt:105:13
 part-wait-start : tie.Need-part-wait-start
 part-wait-start c = search needs
 
--- src/stream.rt:105:13
 part-wait-end : tie.Need-part-wait-end
 part-wait-end c = search needs
 
--- src/stream.rt:105:5
 wait-requires : tie.Need-wait-requires
 wait-requires c κs = search needs
 
--- src/stream.rt:92:1
 returns : tie.Need-returns
 returns c = let g = c .before .before .before .before .before .before .before .args in
     let p = now (g .part) in
