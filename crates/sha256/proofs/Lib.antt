@@ -1,0 +1,8 @@
+-- Laws of SHA-256, of a stream and of the hash call, and examples.
+pub mod Examples
+pub mod Padding
+pub mod Digest
+pub mod Compression
+pub mod Laid
+pub mod Absorbing
+pub mod Call

@@ -1,0 +1,37 @@
+// SHA-256 (FIPS 180-4): the hash under every commitment.
+use refusals::Checked;
+use refusals::buffer::CHOICES;
+use refusals::number::SHAPE;
+ghost use Rattle.sha256.specs.Call.{Hashes};
+
+pub mod block;
+mod bytes;
+mod constants;
+pub mod stream;
+mod word;
+
+// The most bytes that the hash call takes.
+pub const LONGEST: usize = 65535;
+
+// What the hash call answers, and the digest beside it: 32 zeros where it is refused.
+pub struct Hashed {
+    pub answer: Checked,
+    pub digest: [u8; 32],
+}
+
+// The hash call: the digest of a message of at most 65,535 bytes.
+pub fn hash(message: &[u8]) -> Hashed
+    ensures { λ r. ⌜ Hashes (now (message .entry)) r ⌝ }
+{
+    if LONGEST < message.len() {
+        return Hashed {
+            answer: refusals::refuse(SHAPE, CHOICES, 0),
+            digest: [0u8; 32],
+        };
+    }
+    let s = stream::absorb(stream::start(), message);
+    Hashed {
+        answer: Checked::Fine,
+        digest: stream::finish(s),
+    }
+}

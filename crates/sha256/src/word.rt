@@ -1,0 +1,60 @@
+// Operations on words of 32 bits: FIPS 180-4, section 3.2, and the six functions of section 4.1.2.
+use std::num::wrapping_add_u32;
+ghost use mathlib.Core.Path.{_≡_};
+ghost use Prim.Native.Nat.{_<_};
+ghost use Rattle.sha256.specs.Standard.{_⊞_, ROTR, Ch, Maj, Σ0, Σ1, σ0, σ1};
+
+// Addition modulo 2^32.
+pub fn plus(x: u32, y: u32) -> u32
+    ensures { λ r. ⌜ r ≡ x ⊞ y ⌝ }
+{
+    wrapping_add_u32(x, y)
+}
+
+// The rotation by n bits to the right.
+fn rotr(n: u32, x: u32) -> u32
+    requires { ⌜ (0 < n) × (n < 32) ⌝ }
+    ensures { λ r. ⌜ r ≡ ROTR n x ⌝ }
+{
+    (x >> n) | (x << (32 - n))
+}
+
+pub fn ch(x: u32, y: u32, z: u32) -> u32
+    ensures { λ r. ⌜ r ≡ Ch x y z ⌝ }
+{
+    (x & y) ^ (!x & z)
+}
+
+pub fn maj(x: u32, y: u32, z: u32) -> u32
+    ensures { λ r. ⌜ r ≡ Maj x y z ⌝ }
+{
+    (x & y) ^ (x & z) ^ (y & z)
+}
+
+// Σ0
+pub fn big_sigma_0(x: u32) -> u32
+    ensures { λ r. ⌜ r ≡ Σ0 x ⌝ }
+{
+    rotr(2, x) ^ rotr(13, x) ^ rotr(22, x)
+}
+
+// Σ1
+pub fn big_sigma_1(x: u32) -> u32
+    ensures { λ r. ⌜ r ≡ Σ1 x ⌝ }
+{
+    rotr(6, x) ^ rotr(11, x) ^ rotr(25, x)
+}
+
+// σ0
+pub fn small_sigma_0(x: u32) -> u32
+    ensures { λ r. ⌜ r ≡ σ0 x ⌝ }
+{
+    rotr(7, x) ^ rotr(18, x) ^ (x >> 3)
+}
+
+// σ1
+pub fn small_sigma_1(x: u32) -> u32
+    ensures { λ r. ⌜ r ≡ σ1 x ⌝ }
+{
+    rotr(17, x) ^ rotr(19, x) ^ (x >> 10)
+}
