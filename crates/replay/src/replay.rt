@@ -1,0 +1,111 @@
+// The calls by their numbers in a case, each with its line.
+use crate::case::buffer_of;
+use crate::case::call_of;
+use crate::case::number_of;
+use crate::tell::tell_bytes;
+use crate::tell::tell_checked;
+use crate::tell::tell_number;
+use crate::tell::tell_read;
+use crate::tell::tell_written;
+use algebra::output::copy_into;
+use frames::opening::check_opening;
+use frames::opening::opening;
+use frames::read::Read;
+use frames::read::read_bits;
+use frames::read::read_challenges;
+use frames::read::read_commitments;
+use frames::read::read_first_answers;
+use frames::read::read_openings;
+use frames::read::read_public_key;
+use frames::read::read_secret_key;
+use frames::read::read_system;
+use frames::wide;
+use frames::write::Written;
+use frames::write::write_bits;
+use frames::write::write_challenges;
+use frames::write::write_commitments;
+use frames::write::write_first_answers;
+use frames::write::write_openings;
+use frames::write::write_public_key;
+use frames::write::write_secret_key;
+use frames::write::write_system;
+use libc::STDOUT_FILENO;
+use sha256::hash;
+ghost use Rattle.io.specs.Counts.{Counts};
+
+// Copies a buffer that is lent for writing into the room, and answers its length; a case has none that is longer than the room.
+fn lay(buffer: &[u8], room: &mut [u8]) -> usize
+    ensures { λ r. ⌜ Counts r (now (room .exit)) ⌝ }
+{
+    if room.len() < buffer.len() {
+        return 0;
+    }
+    copy_into(buffer, room);
+    buffer.len()
+}
+
+fn read(call: u8, frame: &[u8]) -> Read {
+    match call {
+        1 => read_system(frame),
+        2 => read_public_key(frame),
+        3 => read_secret_key(frame),
+        4 => read_commitments(frame),
+        5 => read_challenges(frame),
+        6 => read_first_answers(frame),
+        7 => read_bits(frame),
+        _ => read_openings(frame),
+    }
+}
+
+fn write(call: u8, a: usize, b: usize, plain: &[u8], out: &mut [u8]) -> Written {
+    match call {
+        9 => write_system(a, b, plain, out),
+        10 => write_public_key(a, plain, out),
+        11 => write_secret_key(a, plain, out),
+        12 => write_commitments(a, plain, out),
+        13 => write_challenges(a, plain, out),
+        14 => write_first_answers(a, b, plain, out),
+        15 => write_bits(a, plain, out),
+        _ => write_openings(a, b, plain, out),
+    }
+}
+
+fn replay_write(call: u8, case: &[u8], out: &mut [u8]) {
+    let plain = buffer_of(case, 0);
+    tell_written(write(call, number_of(case, 0), number_of(case, 1), plain, out));
+    tell_bytes(out);
+}
+
+fn replay_opening(frame: &[u8], round: usize) {
+    tell_checked(check_opening(frame, round));
+    tell_bytes(opening(frame, round));
+}
+
+fn replay_hash(message: &[u8]) {
+    let hashed = hash(message);
+    tell_checked(hashed.answer);
+    tell_bytes(&hashed.digest);
+}
+
+fn replay_call(call: u8, case: &[u8], room: &mut [u8]) {
+    match call {
+        1..=8 => tell_read(read(call, buffer_of(case, 0))),
+        9..=16 => {
+            let lent = lay(buffer_of(case, 1), room);
+            replay_write(call, case, &mut room[..lent]);
+        }
+        17 => replay_opening(buffer_of(case, 0), number_of(case, 0)),
+        18 => replay_hash(buffer_of(case, 0)),
+        _ => {}
+    }
+}
+
+// A case and its line.
+pub fn replay(index: usize, case: &[u8]) {
+    let call = call_of(case);
+    io::print_decimal(STDOUT_FILENO, index as u64);
+    tell_number(wide(call));
+    let mut room = [0u8; 16384];
+    replay_call(call, case, &mut room);
+    io::write_all(STDOUT_FILENO, b"\n");
+}

@@ -1,0 +1,287 @@
+"""The cases of the frames: eight readers, eight writers and the opening of a named round."""
+import signon
+from making import LARGEST, Call, Given, absurd, every_damage, flipped, pair, residues, rest_of
+from signon import KIND, LONG, NONE, NUMBERS, OUTPUT, PERM, PERMUTATIONS, RESIDUES, ROOM, SHAPE, SHORT, VALUE, VERSION
+from signon import Outcome, buffer_of, frame_of, rest_size, start_of
+
+
+def sizes(kind):
+    """Every n and every N, where that is cheap, with the other number at its limits; long bodies are few."""
+    places, rounds = range(2, 65), range(1, 65)
+    if kind == 1:
+        ends = [(n, m) for n in places for m in sorted({1, n - 1})]
+        return ends + [(7, m) for m in range(2, 6)] + [(32, 11), (45, 22), (64, 32)]
+    if kind == 4:
+        return [(1,), (2,), (3,), (20,), (31,), (63,), (64,)]
+    if NUMBERS[kind] == "nN":
+        return [(n, 1) for n in places] + [(2, k) for k in rounds[1:]] + [(5, 7), (22, 23), (64, 64)]
+    return [(number,) for number in (places if NUMBERS[kind] == "n" else rounds)]
+
+
+SMALL = {1: (4, 2), 2: (4,), 3: (4,), 4: (1,), 5: (3,), 6: (3, 2), 7: (11,), 8: (3, 2)}
+"""Numbers of the frame that is damaged in every way."""
+
+
+def numbers_around(kind, beyond):
+    """The small frame's numbers with one of them at and around its limits, or far beyond."""
+    small = SMALL[kind]
+    for place, name in enumerate(NUMBERS[kind]):
+        ends = (0, 1, 2, 3, 63, 64, 65, 66, 128, 255, *beyond)
+        if name == "m":
+            n = small[0]
+            ends = (0, 1, n - 1, n, n + 1, 255, *beyond)
+        for end in ends:
+            yield (*small[:place], end, *small[place + 1 :])
+
+
+def tabled_rest(rng, kind, numbers):
+    """A rest of the tabled length, also for numbers out of limits."""
+    return residues(rng, max(0, rest_size(kind, *pair(numbers))))
+
+
+def single_bits(size):
+    """Each bit alone, used ones and unused ones."""
+    for k in range(8 * size):
+        yield (1 << k).to_bytes(size, "big")
+
+
+def spoilt_rests(rng, kind, first, second):
+    """Rests with the last good and the first wrong byte at each place, with two wrong bytes, with a repeat; all zeros, all alike."""
+    good = rest_of(rng, kind, first, second)
+    yield bytes(len(good))
+    yield bytes([250]) * len(good)
+    if kind == 4:
+        return  # any byte is a digest's
+    if kind == 7:
+        yield from single_bits(len(good))
+    for j in range(len(good)):
+        for byte in (0, first - 1, first, 250, 251, 255):
+            yield good[:j] + bytes([byte]) + good[j + 1 :]
+    for j in range(len(good) - 1):
+        yield good[:j] + bytes([255, 255]) + good[j + 2 :]
+        yield good[: j + 1] + good[j : j + 1] + good[j + 2 :]
+
+
+# --- Readers ---
+
+
+class Draft:
+    """A frame that is well formed until it is damaged."""
+
+    def __init__(self, kind, numbers, rest):
+        self.version = 1
+        self.kind = kind
+        self.numbers = list(numbers)
+        self.rest = bytearray(rest)
+        self.missing = 0
+        self.extra = b""
+
+    def frame(self):
+        body = bytes([self.version, self.kind, *self.numbers]) + self.rest
+        whole = len(body).to_bytes(2, "big") + body
+        return whole[: len(whole) - self.missing] + self.extra
+
+
+def one_missing(draft):
+    draft.missing += 1
+
+
+def two_more(draft):
+    draft.extra += b"\1\2"
+
+
+def other_version(draft):
+    draft.version = 2
+
+
+def other_kind(draft):
+    draft.kind = draft.kind % 8 + 1
+
+
+def number_out_of_limits(draft):
+    draft.numbers[-1] = 0
+
+
+def rest_cut(draft):
+    draft.rest.pop()
+
+
+def byte_spoilt(draft):
+    draft.rest[-1 if draft.kind == 7 else 0] = 255
+
+
+FRAME_DAMAGES = [byte_spoilt, one_missing, two_more, other_version, other_kind, number_out_of_limits, rest_cut]
+
+
+def damaged_frame(rng, kind, damages):
+    draft = Draft(kind, SMALL[kind], rest_of(rng, kind, *pair(SMALL[kind])))
+    for damage in damages:
+        damage(draft)
+    return draft.frame()
+
+
+def recounted(frame, count):
+    return count.to_bytes(2, "big") + frame[2:]
+
+
+def frames(rng, kind):
+    """Frames of a kind, well formed and damaged in every way that document 01 tells."""
+    for numbers in sizes(kind):
+        yield frame_of(kind, numbers, rest_of(rng, kind, *pair(numbers)))
+    small = frame_of(kind, SMALL[kind], rest_of(rng, kind, *pair(SMALL[kind])))
+    count = len(small) - 2
+    for length in range(len(small)):
+        yield small[:length]
+    for extra in (1, 2, 200):
+        yield small + rng.randbytes(extra)
+    for other in (0, 1, 2, 3, count - 1, count + 1, 256 * (count % 256), 256 + count, 65_535):
+        yield recounted(small, other)
+    for length in range(2, 9):
+        yield recounted(small[:length], length - 2)
+    for version in (0, 2, 129, 255):
+        yield small[:2] + bytes([version]) + small[3:]
+    for other in (*range(10), 255):
+        yield small[:3] + bytes([other]) + small[4:]
+    for numbers in numbers_around(kind, ()):
+        yield frame_of(kind, numbers, tabled_rest(rng, kind, numbers))
+        yield frame_of(kind, numbers, small[start_of(kind) :])
+    for rest in (small[start_of(kind) : -1], small[start_of(kind) :] + b"\0"):
+        yield frame_of(kind, SMALL[kind], rest)
+    for rest in spoilt_rests(rng, kind, *pair(SMALL[kind])):
+        yield frame_of(kind, SMALL[kind], rest)
+    yield from every_damage(FRAME_DAMAGES, lambda damages: damaged_frame(rng, kind, damages))
+    for _ in range(3):
+        yield from flipped(rng, small)
+    for length in range(16):
+        yield rng.randbytes(length)
+
+
+def frame_refusals(kind):
+    told = [SHORT, LONG, VERSION, KIND, SHAPE]
+    told += [VALUE] if kind in RESIDUES else []
+    told += [PERM] if kind in PERMUTATIONS else []
+    return {(number, buffer_of(kind)) for number in told}
+
+
+NAMES = "system public_key secret_key commitments challenges first_answers bits openings".split()
+
+
+def reader(kind):
+    return Call(
+        name="read_" + NAMES[kind - 1],
+        play=lambda given: signon.read(kind, *given.buffers),
+        inputs=lambda rng: [Given((), (frame,)) for frame in frames(rng, kind)],
+        refusals=frame_refusals(kind),
+    )
+
+
+# --- Writers ---
+
+
+class Plan:
+    """What a writer is given, well formed until it is damaged."""
+
+    def __init__(self, rng, kind, numbers):
+        self.kind = kind
+        self.numbers = list(numbers)
+        self.plain = bytearray(rest_of(rng, kind, *pair(numbers)))
+        self.room = start_of(kind) + len(self.plain)
+
+    def given(self, rng):
+        return Given(tuple(self.numbers), (bytes(self.plain), rng.randbytes(self.room)))
+
+
+def first_number_absurd(plan):
+    plan.numbers[0] += 2**32
+
+
+def last_number_out_of_limits(plan):
+    plan.numbers[-1] = 65
+
+
+def plain_cut(plan):
+    plan.plain.pop()
+
+
+def plain_spoilt(plan):
+    plan.plain[-1 if plan.kind == 7 else 0] = 255
+
+
+def room_short(plan):
+    plan.room -= 1
+
+
+PLAN_DAMAGES = [first_number_absurd, last_number_out_of_limits, plain_spoilt, plain_cut, room_short]
+
+
+def damaged_plan(rng, kind, damages):
+    plan = Plan(rng, kind, SMALL[kind])
+    for damage in damages:
+        damage(plan)
+    return plan.given(rng)
+
+
+def written(rng, kind):
+    """What the writer of a kind is given, well formed and damaged in every way that document 01 tells."""
+
+    def lend(numbers, plain, room):
+        return Given(tuple(numbers), (plain, rng.randbytes(room)))
+
+    for numbers in sizes(kind):
+        plan = Plan(rng, kind, numbers)
+        plan.room += rng.choice((0, 0, 1, 9))
+        yield plan.given(rng)
+    small = SMALL[kind]
+    plain = rest_of(rng, kind, *pair(small))
+    need = start_of(kind) + len(plain)
+    for room in (*range(8), need - 1, need, need + 1, need + 50):
+        yield lend(small, plain, room)
+    for length in (0, len(plain) - 1, len(plain) + 1, len(plain) + 256):
+        yield lend(small, plain[:length] + bytes(max(0, length - len(plain))), need)
+    for numbers in numbers_around(kind, absurd(small)):
+        yield lend(numbers, plain, need)
+        if max(numbers) < 256:
+            yield lend(numbers, tabled_rest(rng, kind, numbers), start_of(kind) + max(0, rest_size(kind, *pair(numbers))))
+    for rest in spoilt_rests(rng, kind, *pair(small)):
+        yield lend(small, rest, need + rng.randrange(2))
+    yield from every_damage(PLAN_DAMAGES, lambda damages: damaged_plan(rng, kind, damages))
+    for changed in flipped(rng, plain):
+        yield lend(small, changed, need)
+
+
+def writer_refusals(kind):
+    told = {(SHAPE, NONE), (SHAPE, buffer_of(kind)), (ROOM, OUTPUT)}
+    return told | {refusal for refusal in frame_refusals(kind) if refusal[0] in (VALUE, PERM)}
+
+
+def writer(kind):
+    return Call(
+        name="write_" + NAMES[kind - 1],
+        play=lambda given: signon.write(kind, *pair(given.numbers), *given.buffers),
+        inputs=lambda rng: written(rng, kind),
+        refusals=writer_refusals(kind),
+    )
+
+
+# --- The opening of a named round ---
+
+
+def named_rounds(rng):
+    """Every round of frames well formed and the rounds past their end; and damaged frames with a round that they have or have not."""
+    for n, rounds in [(2, 1), (3, 2), (5, 7), (9, 64), (64, 3)]:
+        frame = frame_of(8, (n, rounds), rest_of(rng, 8, n, rounds))
+        for k in (*range(min(rounds, 8)), rounds - 1, rounds, rounds + 1, 255, 256, 2**32, 2**63, LARGEST):
+            yield Given((k,), (frame,))
+    for frame in frames(rng, 8):
+        yield Given((rng.choice((0, 1, 2, 64)),), (frame,))
+
+
+def opening():
+    def play(given):
+        arguments = (*given.buffers, *given.numbers)
+        return Outcome(signon.check_opening(*arguments).answer, (signon.opening(*arguments),))
+
+    return Call("opening", play, named_rounds, frame_refusals(8) | {(SHAPE, NONE)})
+
+
+FRAME_CALLS = [*(reader(kind) for kind in range(1, 9)), *(writer(kind) for kind in range(1, 9)), opening()]

@@ -1,0 +1,79 @@
+"""What the cases of every call are made of: values, numbers around their limits, and damage in every combination."""
+from collections.abc import Callable
+from itertools import combinations
+from random import Random
+from typing import NamedTuple
+
+from signon import P, PERMUTATIONS, RESIDUES, Outcome, packed_size, rest_size
+
+LARGEST = 2**64 - 1
+
+
+class Given(NamedTuple):
+    """What a call is given in a case."""
+
+    numbers: tuple
+    buffers: tuple
+
+
+class Call(NamedTuple):
+    name: str
+    play: Callable[[Given], Outcome]
+    inputs: Callable[[Random], list]
+    refusals: set
+    """Every (number, buffer) that the call can give; the cases have to reach each of them and no other."""
+
+
+# --- Values ---
+
+
+def residues(rng, count):
+    return bytes(rng.randrange(P) for _ in range(count))
+
+
+def permutation(rng, n):
+    places = list(range(n))
+    rng.shuffle(places)
+    return bytes(places)
+
+
+def packed_bits(rng, rounds):
+    unused = 8 * packed_size(rounds) - rounds
+    return (rng.getrandbits(rounds) << unused).to_bytes(packed_size(rounds), "big")
+
+
+def rest_of(rng, kind, first, second):
+    """A well-formed rest of a body."""
+    if kind in PERMUTATIONS:
+        return b"".join(permutation(rng, first) for _ in range(max(second, 1)))
+    if kind == 7:
+        return packed_bits(rng, first)
+    size = rest_size(kind, first, second)
+    return residues(rng, size) if kind in RESIDUES else rng.randbytes(size)
+
+
+def pair(numbers):
+    """The numbers of a kind with 0 for a second one that it does not have."""
+    return numbers if len(numbers) == 2 else (*numbers, 0)
+
+
+# --- Damage ---
+
+
+def absurd(numbers):
+    """Numbers far out of limits, some of which look like good ones in fewer bits."""
+    alike = [beyond + number for number in numbers for beyond in (256, 2**16, 2**32, 2**63)]
+    return [*alike, 2**63, LARGEST]
+
+
+def every_damage(damages, make):
+    """What make gives for every set of damages, so that each two that can be told stand against each other."""
+    for count in range(len(damages) + 1):
+        for chosen in combinations(damages, count):
+            yield make(chosen)
+
+
+def flipped(rng, whole):
+    """The bytes with one of them changed, at each place."""
+    for j, byte in enumerate(whole):
+        yield whole[:j] + bytes([byte ^ rng.randrange(1, 256)]) + whole[j + 1 :]
