@@ -139,7 +139,7 @@ C, B = frame_of(5, [1], b"\7"), frame_of(7, [1], b"\x80")
 
 
 def rooms():
-    """ "ROOM's place" is the bytes needed."""
+    """The place of ROOM is the bytes needed, and it comes before DRAW and SELF."""
     room = [
         (3, draw_permutation(3, b"", b"")),
         (7, draw_challenges(2, b"", b"")),

@@ -124,11 +124,13 @@ def recounted(frame, count):
     return count.to_bytes(2, "big") + frame[2:]
 
 
-def frames(rng, kind):
-    """Frames of a kind, well formed and damaged in every way that document 01 tells."""
+def well_formed(rng, kind):
     for numbers in sizes(kind):
         yield frame_of(kind, numbers, rest_of(rng, kind, *pair(numbers)))
-    small = frame_of(kind, SMALL[kind], rest_of(rng, kind, *pair(SMALL[kind])))
+
+
+def miscounted(rng, small):
+    """Bytes missing, bytes left over, and other counts; the shortest with a count that fits them."""
     count = len(small) - 2
     for length in range(len(small)):
         yield small[:length]
@@ -138,15 +140,33 @@ def frames(rng, kind):
         yield recounted(small, other)
     for length in range(2, 9):
         yield recounted(small[:length], length - 2)
+
+
+def misnamed(small):
+    """Other versions and kinds."""
     for version in (0, 2, 129, 255):
         yield small[:2] + bytes([version]) + small[3:]
-    for other in (*range(10), 255):
-        yield small[:3] + bytes([other]) + small[4:]
+    for kind in (*range(10), 255):
+        yield small[:3] + bytes([kind]) + small[4:]
+
+
+def misshapen(rng, kind, small):
+    """Numbers at and around their limits, over a rest of the tabled length and over the one that was there; a byte less or more."""
+    rest = small[start_of(kind) :]
     for numbers in numbers_around(kind, ()):
         yield frame_of(kind, numbers, tabled_rest(rng, kind, numbers))
-        yield frame_of(kind, numbers, small[start_of(kind) :])
-    for rest in (small[start_of(kind) : -1], small[start_of(kind) :] + b"\0"):
-        yield frame_of(kind, SMALL[kind], rest)
+        yield frame_of(kind, numbers, rest)
+    for other in (rest[:-1], rest + b"\0"):
+        yield frame_of(kind, SMALL[kind], other)
+
+
+def frames(rng, kind):
+    """Frames of a kind, well formed and damaged in every way that document 01 tells."""
+    small = damaged_frame(rng, kind, ())
+    yield from well_formed(rng, kind)
+    yield from miscounted(rng, small)
+    yield from misnamed(small)
+    yield from misshapen(rng, kind, small)
     for rest in spoilt_rests(rng, kind, *pair(SMALL[kind])):
         yield frame_of(kind, SMALL[kind], rest)
     yield from every_damage(FRAME_DAMAGES, lambda damages: damaged_frame(rng, kind, damages))
@@ -221,32 +241,48 @@ def damaged_plan(rng, kind, damages):
     return plan.given(rng)
 
 
-def written(rng, kind):
-    """What the writer of a kind is given, well formed and damaged in every way that document 01 tells."""
+def lend(rng, numbers, plain, room):
+    return Given(tuple(numbers), (plain, rng.randbytes(room)))
 
-    def lend(numbers, plain, room):
-        return Given(tuple(numbers), (plain, rng.randbytes(room)))
 
+def roomy(rng, kind):
+    """Every size, in an output of just the bytes needed or of some more."""
     for numbers in sizes(kind):
         plan = Plan(rng, kind, numbers)
         plan.room += rng.choice((0, 0, 1, 9))
         yield plan.given(rng)
+
+
+def around_need(rng, small, plain, need):
+    """Outputs and plain buffers shorter and longer than needed."""
+    for room in (*range(8), need - 1, need, need + 1, need + 50):
+        yield lend(rng, small, plain, room)
+    for length in (0, len(plain) - 1, len(plain) + 1, len(plain) + 256):
+        yield lend(rng, small, plain[:length].ljust(length, b"\0"), need)
+
+
+def misnumbered(rng, kind, plain, need):
+    """Numbers at and around their limits and far beyond, over the plain buffer that was there and over one of the tabled length."""
+    for numbers in numbers_around(kind, absurd(SMALL[kind])):
+        yield lend(rng, numbers, plain, need)
+        if max(numbers) < 256:
+            tabled = tabled_rest(rng, kind, numbers)
+            yield lend(rng, numbers, tabled, start_of(kind) + len(tabled))
+
+
+def plans(rng, kind):
+    """What the writer of a kind is given, well formed and damaged in every way that document 01 tells."""
     small = SMALL[kind]
     plain = rest_of(rng, kind, *pair(small))
     need = start_of(kind) + len(plain)
-    for room in (*range(8), need - 1, need, need + 1, need + 50):
-        yield lend(small, plain, room)
-    for length in (0, len(plain) - 1, len(plain) + 1, len(plain) + 256):
-        yield lend(small, plain[:length] + bytes(max(0, length - len(plain))), need)
-    for numbers in numbers_around(kind, absurd(small)):
-        yield lend(numbers, plain, need)
-        if max(numbers) < 256:
-            yield lend(numbers, tabled_rest(rng, kind, numbers), start_of(kind) + max(0, rest_size(kind, *pair(numbers))))
+    yield from roomy(rng, kind)
+    yield from around_need(rng, small, plain, need)
+    yield from misnumbered(rng, kind, plain, need)
     for rest in spoilt_rests(rng, kind, *pair(small)):
-        yield lend(small, rest, need + rng.randrange(2))
+        yield lend(rng, small, rest, need + rng.randrange(2))
     yield from every_damage(PLAN_DAMAGES, lambda damages: damaged_plan(rng, kind, damages))
     for changed in flipped(rng, plain):
-        yield lend(small, changed, need)
+        yield lend(rng, small, changed, need)
 
 
 def writer_refusals(kind):
@@ -258,7 +294,7 @@ def writer(kind):
     return Call(
         name="write_" + NAMES[kind - 1],
         play=lambda given: signon.write(kind, *pair(given.numbers), *given.buffers),
-        inputs=lambda rng: written(rng, kind),
+        inputs=lambda rng: plans(rng, kind),
         refusals=writer_refusals(kind),
     )
 

@@ -163,7 +163,7 @@ PERMUTATIONS = {3, 8}
 
 
 def buffer_of(kind):
-    """ "Buffers: 1 to 3 as kinds 1 to 3, .. 5 to 9 as kinds 4 to 8"."""
+    """Buffers 1 to 3 are kinds 1 to 3, and 5 to 9 kinds 4 to 8."""
     return kind if kind <= 3 else kind + 1
 
 
@@ -266,7 +266,7 @@ def frame_of(kind, numbers, rest):
 
 
 def over(written, output):
-    """ "A longer one keeps its rest"."""
+    """What an output holds afterwards: "a longer one keeps its rest"."""
     return written + output[len(written) :]
 
 
