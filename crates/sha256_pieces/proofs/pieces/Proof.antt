@@ -1,22 +1,16 @@
 use borrow.Author.Needs.{needs}
-use mathlib.Core.Path.{_≡_, refl, sym, ap, _∙_, subst}
-use mathlib.Core.Bool.{Bool, true, false}
-use mathlib.Core.List.{List, [], _∷_, _++_}
-use Prim.Native.Nat.{ℕ, zero, suc, _+_, _-_, _*_, _/_, _%_, _≤_, _<_}
+use mathlib.Core.Path.{_≡_}
+use mathlib.Core.List.{_++_}
+use Prim.Native.Nat.{_+_, _-_, _≤_}
 use native.Mathlib.Omega.{arith}
-use lib.ListN.{length, getD, take, drop}
+use lib.ListN.{length, take, drop}
 use denote.Ref.{now}
 use lib.Seq.{take-add}
-use lib.ListN.{take-append-drop, length-drop}
+use lib.ListN.{take-append-drop}
 use Rattle.sha256.proofs.Absorbing.{rest-of}
 use Rattle.sha256.specs.Absorbed.{Absorbed}
 use Rattle.sha256_pieces.proofs.pieces.Statement.{statement}
 use Rattle.sha256_pieces.proofs.pieces.Tie as tie
-use Rattle.sha256_pieces.proofs.pieces.Reads as reads
-use Rattle.sha256_pieces.proofs.pieces.Lts as lts
-use Rattle.sha256.proofs.stream.absorb.Reads as absorb-reads
-use Rattle.sha256.proofs.stream.finish.Reads as finish-reads
-use Rattle.sha256.proofs.stream.start.Reads as start-reads
 
 abbrev Inv-loop : tie.InvT-loop
 Inv-loop message size s₀ i₀ s i = (i ≤ length message) × (s .count ≡ i) × Absorbed s (take i message)
@@ -24,43 +18,33 @@ Inv-loop message size s₀ i₀ s i = (i ≤ length message) × (s .count ≡ i)
 abbrev μ-loop : tie.MeasureT-loop
 μ-loop message size s₀ i₀ s i = length message - i
 
--- src/lib.rt:19:9
 start-requires : tie.Need-start-requires Inv-loop μ-loop
 start-requires c κs = search needs
 
--- src/lib.rt:21:5
 loop-holds : tie.Need-loop-holds Inv-loop μ-loop
 loop-holds c = (omega arith, c .start .ensures .count, c .start .ensures)
 
--- src/lib.rt:21:18
 sub-loop : tie.Need-sub-loop Inv-loop μ-loop
 sub-loop c = search needs
 
--- src/lib.rt:22:19
 add-end : tie.Need-add-end Inv-loop μ-loop
 add-end c = search needs
 
--- src/lib.rt:23:23
 sub-absorb : tie.Need-sub-absorb Inv-loop μ-loop
 sub-absorb c = search needs
 
--- src/lib.rt:23:23
 part-absorb-start : tie.Need-part-absorb-start Inv-loop μ-loop
 part-absorb-start c = search needs
 
--- src/lib.rt:23:23
 part-absorb-end : tie.Need-part-absorb-end Inv-loop μ-loop
 part-absorb-end c = search needs
 
--- src/lib.rt:23:9
 absorb-requires : tie.Need-absorb-requires Inv-loop μ-loop
 absorb-requires c κs = search needs
 
--- src/lib.rt:21:5
 loop-less : tie.Need-loop-less Inv-loop μ-loop
 loop-less c = search needs
 
--- src/lib.rt:21:5
 loop-again : tie.Need-loop-again Inv-loop μ-loop
 loop-again c = let l = c .before .before .before in
     let p = now (l .before .before .before .args .message) in
@@ -69,27 +53,21 @@ loop-again c = let l = c .before .before .before in
     let e : i + n - i ≡ n = omega arith in
     (search needs, search needs, rw (take-add i n p) (rw e at (c .absorb .ensures .message (take i p) (l .loop .inv .2))))
 
--- src/lib.rt:26:22
 sub-absorb-2 : tie.Need-sub-absorb-2 Inv-loop μ-loop
 sub-absorb-2 c = search needs
 
--- src/lib.rt:26:22
 part-absorb-start-2 : tie.Need-part-absorb-start-2 Inv-loop μ-loop
 part-absorb-start-2 c = search needs
 
--- src/lib.rt:26:22
 part-absorb-end-2 : tie.Need-part-absorb-end-2 Inv-loop μ-loop
 part-absorb-end-2 c = search needs
 
--- src/lib.rt:26:12
 absorb-requires-2 : tie.Need-absorb-requires-2 Inv-loop μ-loop
 absorb-requires-2 c κs = search needs
 
--- src/lib.rt:26:5
 finish-requires : tie.Need-finish-requires Inv-loop μ-loop
 finish-requires c κs = search needs
 
--- src/lib.rt:15:1
 returns : tie.Need-returns Inv-loop μ-loop
 returns c = let l = c .before .before .before .before in
     let p = now (l .before .before .before .args .message) in
