@@ -1,5 +1,7 @@
--- Laws of SHA-256 and of a stream, and examples.
-pub mod Compression
+-- Laws of SHA-256, of a stream and of the hash call, and examples.
+pub mod Examples
 pub mod Padding
+pub mod Digest
+pub mod Compression
 pub mod Absorbing
 pub mod Call

@@ -1,3 +1,4 @@
+-- `hash` refuses by the length alone; else it is a stream that absorbs the message and is finished.
 use mathlib.Core.Path.{_∙_}
 use mathlib.Core.List.{[]}
 use native.Mathlib.Omega.{arith}

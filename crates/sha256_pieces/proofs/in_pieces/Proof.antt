@@ -1,3 +1,4 @@
+-- `in_pieces` is the hash call itself where it is refused or not cut, and else has the digest by `pieces`.
 use native.Mathlib.Omega.{arith}
 use denote.Ref.{now}
 use Rattle.sha256.proofs.Call.{told-fine}

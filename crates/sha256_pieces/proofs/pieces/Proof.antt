@@ -1,3 +1,4 @@
+-- `pieces` has absorbed the first i bytes of the message after each turn, and all of them at the end.
 use borrow.Author.Needs.{needs}
 use mathlib.Core.Path.{_≡_}
 use mathlib.Core.List.{_++_}

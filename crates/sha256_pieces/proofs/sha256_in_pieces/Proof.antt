@@ -1,3 +1,4 @@
+-- `sha256_in_pieces` hands on the digest of `in_pieces`, whose contract fixes it.
 use borrow.Author.Needs.{needs}
 use Rattle.sha256_pieces.proofs.sha256_in_pieces.Statement.{statement}
 use Rattle.sha256_pieces.proofs.sha256_in_pieces.Tie as tie

@@ -1,3 +1,4 @@
+-- `print_equal` lends the first n bytes of an array that has as many.
 use mathlib.Core.Path.{sym}
 use native.Mathlib.Omega.{arith}
 use lib.Seq.{length-take-le}

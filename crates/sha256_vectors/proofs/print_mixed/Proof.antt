@@ -1,3 +1,4 @@
+-- `print_mixed` writes and lends the first n bytes of the room, which keeps its length.
 use lib.Seq.{length-take-le}
 use borrow.Author.Needs.{needs}
 use mathlib.Core.Path.{_≡_, sym}

@@ -1,3 +1,4 @@
+-- `print_short` lends the whole room, which keeps its length, for lengths that it has.
 use borrow.Author.Needs.{needs}
 use mathlib.Core.Path.{_≡_}
 use Prim.Native.Nat.{_-_, _≤_}

@@ -1,3 +1,4 @@
+-- `same_in_pieces` divides by at least 2, and counts the pieces up to a bound.
 use native.Mathlib.Nat.{div-le-self}
 use borrow.Author.Needs.{needs}
 use Prim.Native.Nat.{_-_, _≤_}

@@ -1,3 +1,4 @@
+-- `bytes_of` gives the four bytes of each word; the lowest byte needs no shift, as x / 1 is x.
 use Rattle.sha256.specs.Standard.{bytes, bytesOf}
 use native.Mathlib.Nat.{div-one}
 use borrow.Author.Needs.{needs}

@@ -1,3 +1,4 @@
+-- `expanded` is the sum that makes a word of the schedule from four before it.
 use Rattle.sha256.specs.Standard.{expand}
 use borrow.Author.Needs.{needs}
 use Rattle.sha256.proofs.block.expanded.Statement.{statement}

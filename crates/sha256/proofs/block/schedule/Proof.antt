@@ -1,3 +1,4 @@
+-- `schedule` is the schedule of the block: its first t words are those of the definition, through both loops.
 use borrow.Author.Needs.{needs}
 use mathlib.Core.Path.{_≡_, refl, sym, ap, _∙_}
 use Prim.Native.Nat.{_-_, _≤_}

@@ -1,3 +1,4 @@
+-- `turns` is the 64 turns: after t of them, where t is a multiple of 4, the working variables are those of the definition.
 use borrow.Author.Needs.{needs}
 use mathlib.Core.Path.{_≡_, refl}
 use Prim.Native.Nat.{_+_, _-_, _%_, _≤_, _<_}

@@ -1,3 +1,4 @@
+-- `word_at` is the word of four bytes: each is below 256, so that no product and no sum wraps.
 use mathlib.Core.Path.{refl}
 use Prim.Native.Nat.{_+_}
 use native.Mathlib.Omega.{arith}

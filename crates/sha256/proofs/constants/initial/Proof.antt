@@ -1,3 +1,4 @@
+-- `initial` is §5.3.3's initial hash value, word for word.
 use mathlib.Core.Path.{refl}
 use Rattle.sha256.specs.Standard.{H0}
 use Rattle.sha256.proofs.constants.initial.Statement.{statement}

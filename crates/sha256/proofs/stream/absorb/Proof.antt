@@ -1,3 +1,4 @@
+-- `absorb` cuts the part where the block that waits ends, and the pieces are the part.
 use mathlib.Core.Path.{_≡_, sym}
 use mathlib.Core.List.{_++_}
 use Prim.Native.Nat.{_+_, _-_, _%_}

@@ -1,3 +1,4 @@
+-- `blocks` goes on from the hash value of whole blocks: after i bytes, a multiple of 64, it has that of the message and those.
 use borrow.Author.Needs.{needs}
 use mathlib.Core.Path.{_≡_}
 use mathlib.Core.List.{List, _++_}

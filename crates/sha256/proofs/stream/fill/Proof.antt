@@ -1,3 +1,4 @@
+-- `fill` lays the part after the bytes that wait, which makes the next block of the message, and compresses that.
 use mathlib.Core.Path.{_≡_, refl}
 use mathlib.Core.List.{_++_}
 use Prim.Native.Nat.{_+_, _%_}

@@ -1,3 +1,4 @@
+-- `finish` goes on from the hash value of the whole blocks, over the bytes that wait and the padding: together the padded message.
 use mathlib.Core.Path.{_≡_, refl, sym, ap, _∙_}
 use mathlib.Core.List.{List, _++_}
 use Prim.Native.Nat.{ℕ, _+_, _%_}

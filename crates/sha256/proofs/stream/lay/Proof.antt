@@ -1,3 +1,4 @@
+-- `lay` copies: after j bytes the buffer has the part's first j from place `at` on, and else what it had.
 use borrow.Author.Needs.{needs}
 use mathlib.Core.Path.{_≡_, refl}
 use Prim.Native.Nat.{_-_, _≤_}

@@ -1,3 +1,4 @@
+-- `lay_end` lays the bytes that wait, the mark and the count of bits into zeros; the zeros left between are those of the padding.
 use mathlib.Core.Path.{_≡_, ap, _∙_}
 use Prim.Native.Nat.{ℕ, suc, _+_, _-_, _%_}
 use native.Mathlib.Omega.{arith}

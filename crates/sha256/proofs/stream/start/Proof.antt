@@ -1,3 +1,4 @@
+-- `start` has absorbed nothing: no byte, no block, and so the initial hash value.
 use mathlib.Core.Path.{refl}
 use Rattle.sha256.specs.Standard.{hashValue}
 use borrow.Author.Needs.{needs}

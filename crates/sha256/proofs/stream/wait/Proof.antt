@@ -1,3 +1,4 @@
+-- `wait` lays the part after the bytes that wait; no block ends, so that the hash value stays.
 use mathlib.Core.Path.{_≡_, refl}
 use mathlib.Core.List.{_++_}
 use Prim.Native.Nat.{_+_, _%_}

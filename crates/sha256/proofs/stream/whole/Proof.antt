@@ -1,3 +1,4 @@
+-- `whole` has nothing waiting, so that the part's whole blocks go on from the hash value, and what is left of the part waits.
 use mathlib.Core.Path.{_≡_, sym}
 use mathlib.Core.List.{_++_}
 use Prim.Native.Nat.{_+_, _-_, _%_}

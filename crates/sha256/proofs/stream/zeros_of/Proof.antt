@@ -1,3 +1,4 @@
+-- `zeros_of` computes the definition; its bounds are arithmetic modulo 64.
 use mathlib.Core.Path.{refl}
 use native.Mathlib.Omega.{arith}
 use Rattle.sha256.specs.Standard.{zeros}

@@ -1,3 +1,4 @@
+-- `ch` is §4.1.2's Ch, operation by operation.
 use mathlib.Core.Path.{refl}
 use Rattle.sha256.specs.Standard.{Ch}
 use Rattle.sha256.proofs.word.ch.Statement.{statement}

@@ -1,3 +1,4 @@
+-- `maj` is §4.1.2's Maj, operation by operation.
 use mathlib.Core.Path.{refl}
 use Rattle.sha256.specs.Standard.{Maj}
 use Rattle.sha256.proofs.word.maj.Statement.{statement}
