@@ -1,12 +1,10 @@
 -- Laws of a stream: what each step makes of the message that was absorbed, as the functions of `src/stream.rt` go.
 use mathlib.Core.Path.{_≡_, refl, sym, ap, _∙_}
-use mathlib.Core.List.{List, _∷_, _++_, append-assoc}
+use mathlib.Core.List.{List, _++_, append-assoc}
 use Prim.Native.Nat.{ℕ, zero, suc, _+_, _-_, _*_, _/_, _%_, _≤_, _<_}
-use native.Mathlib.Nat.{le-refl}
 use native.Mathlib.Omega.{arith}
-use lib.ListN.{length, take, drop, set, replicate, length-append, length-drop, drop-of-length-le, length-replicate, take-append-drop}
-use lib.Seq.{drop-append-le, drop-at, length-take-le, paste, set-at, take-all, take-append-add, take-append-le, take-length, take-paste}
-use Rattle.sha256.proofs.Padding.{take-zeros, drop-zeros}
+use lib.ListN.{length, take, drop, length-append, length-drop, drop-of-length-le, take-append-drop}
+use lib.Seq.{drop-append-le, drop-at, length-take-le, take-all, take-append-le}
 use Rattle.sha256.specs.Absorbed.{Absorbed, Chained}
 use Rattle.sha256.specs.Standard.{blockAt, blockCount, bytesOf, compressOf, digestOf, hashValue, pad, padding}
 use Rattle.sha256.specs.declared.block.Words.{Words}
@@ -69,10 +67,7 @@ absorbed s m n k =
     let l : length m ≤ 64 * (length m / 64) = omega arith in
     record { count = n; words = k .value; waiting = rw w (sym (drop-of-length-le m l)) }
 
--- ---- a part is laid into a buffer
-
-pub laid : (b y : List ℕ) (at : ℕ) → at ≤ length b → take (at + length y) (paste b at y (length y)) ≡ take at b ++ y
-laid b y at h = take-paste b at y (length y) h (le-refl (length y)) ∙ ap (λ (l : List ℕ). take at b ++ l) (take-length y)
+-- ---- a part that is laid into the buffer
 
 -- a part y after the bytes that wait, which does not end the block
 pub waited : (s : Stream) (m y b : List ℕ) → Absorbed s m → take (s .count % 64 + length y) b ≡ take (s .count % 64) (s .buffer) ++ y → s .count % 64 + length y < 64
@@ -105,19 +100,6 @@ pub rest-of : (p : List ℕ) (i : ℕ) → take (length p - i) (drop i p) ≡ dr
 rest-of p i = take-all (length p - i) (drop i p) (rw length-drop (omega arith))
 
 -- ---- the end
-
--- the bytes w that wait, the mark, z zeros and the count of bits, laid into zeros d
-pub ended : (u z : ℕ) (w bits d : List ℕ) → z ≤ u → d ≡ replicate (length w + suc u) 0
-    → take (length w + z + 1 + length bits) (paste (set (paste d 0 w (length w)) (length w) 0x80) (length w + z + 1) bits (length bits)) ≡ w ++ (0x80 ∷ (replicate z 0 ++ bits))
-ended u z w bits d h e =
-    let o : 0 + length w ≡ length w = omega arith in
-    let i : length w + z + 1 ≡ length w + suc z = omega arith in
-    let t = w ++ (0x80 ∷ replicate u 0) in
-    let first : paste d 0 w (length w) ≡ w ++ (0 ∷ replicate u 0) = rw (e, o, take-length w, drop-zeros (suc u) (length w)) in
-    let second : set (paste d 0 w (length w)) (length w) 0x80 ≡ t = rw first (set-at w 0 (replicate u 0) 0x80 (length w) refl) in
-    let size : length t ≡ length w + suc u = simp (length-append, length-replicate) in
-    let front : take (length w + z + 1) t ≡ w ++ (0x80 ∷ replicate z 0) = rw (i, take-append-add w (0x80 ∷ replicate u 0) (suc z), take-zeros u z h) in
-    rw (second, laid t bits (length w + z + 1) (omega arith), front) (append-assoc w (0x80 ∷ replicate z 0) bits)
 
 -- a hash value of a message and its padding is that of the digest
 pub digested : (v : Words) (m : List ℕ) → Chained v (m ++ padding (length m)) → bytesOf v ≡ digestOf m

@@ -1,11 +1,9 @@
 -- The padding of §5.1.1 is what the standard asks for, and the number of blocks that it makes.
 use mathlib.Core.Path.{_≡_, refl, ap}
-use mathlib.Core.List.{List, _∷_}
+use mathlib.Core.List.{List}
 use Prim.Native.Nat.{ℕ, zero, suc, _+_, _*_, _/_, _%_, _≤_}
-use native.Mathlib.Nat.{not-suc-le-zero}
 use native.Mathlib.Omega.{arith}
-use lib.ListN.{length, take, drop, replicate, length-append, length-replicate, replicate-append-replicate}
-use lib.Seq.{drop-at}
+use lib.ListN.{length, length-append, length-replicate}
 use Rattle.sha256.specs.Standard.{bytes, zeros, padding, pad, blockCount}
 
 -- ---- §5.1.1 in bits: a message of l = 8 n bits, the bit 1, then k zeros, "where k is the smallest, non-negative solution to the equation
@@ -41,13 +39,3 @@ length-pad m = simp (length-append, length-padding) (omega arith)
 pub block-count : (m : List ℕ) → blockCount m ≡ (length m + 72) / 64
 unfolding blockCount
 block-count m = rw (length-pad m) (omega arith)
-
--- ---- zeros, as the code finds them in a buffer that is all zeros
-
-pub take-zeros : (n k : ℕ) → k ≤ n → take {A = ℕ} k (replicate n 0) ≡ replicate k 0
-take-zeros n zero h = refl
-take-zeros zero (suc k) h = absurd (not-suc-le-zero h)
-take-zeros (suc n) (suc k) h = ap (λ (l : List ℕ). 0 ∷ l) (take-zeros n k (omega arith))
-
-pub drop-zeros : (n k : ℕ) → drop {A = ℕ} k (replicate (k + n) 0) ≡ replicate n 0
-drop-zeros n k = rw (← replicate-append-replicate {A = ℕ} k n 0) (drop-at (replicate k 0) (replicate n 0) k (length-replicate {A = ℕ} k 0))

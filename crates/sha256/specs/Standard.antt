@@ -13,6 +13,11 @@ unfoldable pub bytes : ℕ → ℕ → List ℕ
 bytes zero x = []
 bytes (suc k) x = x / 2 ^ (8 * k) % 2 ^ 8 ∷ bytes k x
 
+-- §3.1: the bytes of words, one word after the other
+unfoldable pub bytesOfWords : List ℕ → List ℕ
+bytesOfWords [] = []
+bytesOfWords (w ∷ ws) = bytes 4 w ++ bytesOfWords ws
+
 -- §3.1: the word of the four bytes from a place on, the highest first
 unfoldable pub wordAt : List ℕ → ℕ → ℕ
 wordAt s at = getD s at 0 * 2 ^ 24 + getD s (at + 1) 0 * 2 ^ 16 + getD s (at + 2) 0 * 2 ^ 8 + getD s (at + 3) 0
@@ -162,10 +167,9 @@ unfoldable pub hashValue : List ℕ → ℕ → Words
 hashValue p zero = H0
 hashValue p (suc i) = compressOf (hashValue p i) (blockAt p i)
 
--- §6.2.2: the message digest, 32 bytes
+-- §6.2.2: the message digest, of 32 bytes
 unfoldable pub bytesOf : Words → List ℕ
-bytesOf v =
-    bytes 4 (v .a) ++ bytes 4 (v .b) ++ bytes 4 (v .c) ++ bytes 4 (v .d) ++ bytes 4 (v .e) ++ bytes 4 (v .f) ++ bytes 4 (v .g) ++ bytes 4 (v .h)
+bytesOf v = bytesOfWords (v .a ∷ v .b ∷ v .c ∷ v .d ∷ v .e ∷ v .f ∷ v .g ∷ v .h ∷ [])
 
 unfoldable pub digestOf : List ℕ → List ℕ
 digestOf m = bytesOf (hashValue (pad m) (blockCount m))

@@ -1,4 +1,7 @@
 // The hash value of a message, block by block: FIPS 180-4, section 6.2.2.
+use crate::bytes::bytes_of_word;
+use crate::bytes::lay;
+use crate::bytes::word_at;
 use crate::constants::K;
 use crate::word::big_sigma_0;
 use crate::word::big_sigma_1;
@@ -8,9 +11,8 @@ use crate::word::plus;
 use crate::word::small_sigma_0;
 use crate::word::small_sigma_1;
 ghost use mathlib.Core.Path.{_≡_};
-ghost use Prim.Native.Nat.{_+_, _≤_};
 ghost use lib.ListN.{length};
-ghost use Rattle.sha256.specs.Standard.{wordAt, expand, W, turnOf, turnsOf, compressOf, bytesOf};
+ghost use Rattle.sha256.specs.Standard.{expand, W, turnOf, turnsOf, compressOf, bytesOf};
 
 // The eight words of a hash value, or the eight working variables.
 pub struct Words {
@@ -22,17 +24,6 @@ pub struct Words {
     pub f: u32,
     pub g: u32,
     pub h: u32,
-}
-
-// The word of the four bytes from place `at` on, the highest first.
-fn word_at(s: &[u8], at: usize) -> u32
-    requires { ⌜ at + 4 ≤ length (now s) ⌝ }
-    ensures { λ r. ⌜ r ≡ wordAt (now (s .entry)) at ⌝ }
-{
-    (s[at] as u32) * 0x1000000
-        + (s[at + 1] as u32) * 0x10000
-        + (s[at + 2] as u32) * 0x100
-        + (s[at + 3] as u32)
 }
 
 // A word of the schedule from the words 2, 7, 15 and 16 places before it.
@@ -117,42 +108,17 @@ pub fn compress(v: Words, block: &[u8]) -> Words
     }
 }
 
-// The bytes of a hash value, each word's highest first.
+// The bytes of a hash value, word by word.
 pub fn bytes_of(v: Words) -> [u8; 32]
     ensures { λ r. ⌜ r ≡ bytesOf v ⌝ }
 {
-    [
-        ((v.a >> 24) % 256) as u8,
-        ((v.a >> 16) % 256) as u8,
-        ((v.a >> 8) % 256) as u8,
-        (v.a % 256) as u8,
-        ((v.b >> 24) % 256) as u8,
-        ((v.b >> 16) % 256) as u8,
-        ((v.b >> 8) % 256) as u8,
-        (v.b % 256) as u8,
-        ((v.c >> 24) % 256) as u8,
-        ((v.c >> 16) % 256) as u8,
-        ((v.c >> 8) % 256) as u8,
-        (v.c % 256) as u8,
-        ((v.d >> 24) % 256) as u8,
-        ((v.d >> 16) % 256) as u8,
-        ((v.d >> 8) % 256) as u8,
-        (v.d % 256) as u8,
-        ((v.e >> 24) % 256) as u8,
-        ((v.e >> 16) % 256) as u8,
-        ((v.e >> 8) % 256) as u8,
-        (v.e % 256) as u8,
-        ((v.f >> 24) % 256) as u8,
-        ((v.f >> 16) % 256) as u8,
-        ((v.f >> 8) % 256) as u8,
-        (v.f % 256) as u8,
-        ((v.g >> 24) % 256) as u8,
-        ((v.g >> 16) % 256) as u8,
-        ((v.g >> 8) % 256) as u8,
-        (v.g % 256) as u8,
-        ((v.h >> 24) % 256) as u8,
-        ((v.h >> 16) % 256) as u8,
-        ((v.h >> 8) % 256) as u8,
-        (v.h % 256) as u8,
-    ]
+    let words = [v.a, v.b, v.c, v.d, v.e, v.f, v.g, v.h];
+    let mut out = [0u8; 32];
+    let mut i: usize = 0;
+    while i < 8 {
+        let bytes = bytes_of_word(words[i]);
+        lay(&mut out, 4 * i, &bytes);
+        i += 1;
+    }
+    out
 }

@@ -5,6 +5,7 @@ use refusals::number::SHAPE;
 ghost use Rattle.sha256.specs.Call.{Hashes};
 
 pub mod block;
+pub mod bytes;
 pub mod constants;
 pub mod stream;
 pub mod word;

@@ -2,13 +2,14 @@
 use crate::block::Words;
 use crate::block::bytes_of;
 use crate::block::compress;
+use crate::bytes::bytes_of_count;
+use crate::bytes::lay;
 use crate::constants::initial;
 ghost use mathlib.Core.Path.{_≡_};
 ghost use mathlib.Core.List.{List, [], _++_};
 ghost use Prim.Native.Nat.{ℕ, _+_, _%_, _<_, _≤_, _^_};
 ghost use lib.ListN.{length, take, replicate};
-ghost use lib.Seq.{paste};
-ghost use Rattle.sha256.specs.Standard.{bytes, zeros, padding, digestOf};
+ghost use Rattle.sha256.specs.Standard.{zeros, padding, digestOf};
 ghost use Rattle.sha256.specs.Absorbed.{Absorbed, Absorbs, Chained};
 
 // What has been absorbed: the hash value of the whole blocks, the bytes since, at the front of the buffer, and the count of all bytes.
@@ -26,18 +27,6 @@ pub fn start() -> Stream
         words: initial(),
         buffer: [0u8; 64],
         count: 0,
-    }
-}
-
-// Lays a part into a buffer, from place `at` on.
-fn lay(buffer: &mut [u8], at: usize, part: &[u8])
-    requires { ⌜ at + length (now part) ≤ length (now buffer) ⌝ }
-    ensures { λ _. ⌜ now (buffer .exit) ≡ paste (now (buffer .entry)) at (now (part .entry)) (length (now (part .entry))) ⌝ }
-{
-    let mut j: usize = 0;
-    while j < part.len() {
-        buffer[at + j] = part[j];
-        j += 1;
     }
 }
 
@@ -123,22 +112,6 @@ pub fn absorb(s: Stream, part: &[u8]) -> Stream
     whole(r, &part[room..])
 }
 
-// The eight bytes of a number, the highest first.
-fn bytes_of_count(x: u64) -> [u8; 8]
-    ensures { λ r. ⌜ r ≡ bytes 8 x ⌝ }
-{
-    [
-        ((x >> 56) % 256) as u8,
-        ((x >> 48) % 256) as u8,
-        ((x >> 40) % 256) as u8,
-        ((x >> 32) % 256) as u8,
-        ((x >> 24) % 256) as u8,
-        ((x >> 16) % 256) as u8,
-        ((x >> 8) % 256) as u8,
-        (x % 256) as u8,
-    ]
-}
-
 // The zeros of the padding of n bytes: with the mark and the count of bits they end the block that waits, or the next.
 fn zeros_of(n: usize) -> usize
     ensures { λ r. ⌜ (r ≡ zeros n) × (n % 64 + r ≤ 119) × ((n % 64 + r + 9) % 64 ≡ 0) ⌝ }
@@ -168,8 +141,8 @@ pub fn finish(s: Stream) -> [u8; 32]
     let at = n % 64;
     let end = at + zeros_of(n) + 9;
     let words = s.words;
-    let buffer = s.buffer;
+    let waiting = s.buffer;
     let mut tail = [0u8; 128];
-    lay_end(&mut tail, &buffer[..at], n);
+    lay_end(&mut tail, &waiting[..at], n);
     bytes_of(blocks(words, &tail[..end]))
 }

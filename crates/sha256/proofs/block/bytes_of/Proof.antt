@@ -1,144 +1,81 @@
--- `bytes_of` gives the four bytes of each word; the lowest byte needs no shift, as x / 1 is x.
-use Rattle.sha256.specs.Standard.{bytes, bytesOf}
-use native.Mathlib.Nat.{div-one}
+-- `bytes_of` lays each word's bytes after those of the words before it: after i words the first 4 i bytes are those words'.
 use borrow.Author.Needs.{needs}
+use mathlib.Core.Path.{_≡_, refl, sym, _∙_}
+use mathlib.Core.List.{[], _∷_}
+use Prim.Native.Nat.{_-_, _*_, _≤_}
+use native.Mathlib.Omega.{arith}
+use lib.ListN.{length, take}
+use Rattle.sha256.specs.Standard.{bytesOf, bytesOfWords}
+use Rattle.sha256.proofs.Laid.{words-more}
+use lib.Seq.{take-all}
 use Rattle.sha256.proofs.block.bytes_of.Statement.{statement}
 use Rattle.sha256.proofs.block.bytes_of.Tie as tie
 
-cast-t4 : tie.Need-cast-t4
-cast-t4 c = search needs
+abbrev Inv-loop : tie.InvT-loop
+Inv-loop words out₀ i₀ out i = (i ≤ 8) × (length out ≡ 32) × (take (4 * i) out ≡ bytesOfWords (take i words))
 
-cast-t7 : tie.Need-cast-t7
-cast-t7 c = search needs
+abbrev μ-loop : tie.MeasureT-loop
+μ-loop words out₀ i₀ out i = 8 - i
 
-cast-t10 : tie.Need-cast-t10
-cast-t10 c = search needs
+loop-holds : tie.Need-loop-holds Inv-loop μ-loop
+unfolding bytesOfWords
+loop-holds c = (omega arith, refl, refl)
 
-cast-t12 : tie.Need-cast-t12
-cast-t12 c = search needs
+mul-bytes-of-word : tie.Need-mul-bytes-of-word Inv-loop μ-loop
+mul-bytes-of-word c = search needs
 
-cast-t15 : tie.Need-cast-t15
-cast-t15 c = search needs
+array-read-bytes-of-word : tie.Need-array-read-bytes-of-word Inv-loop μ-loop
+array-read-bytes-of-word c = search needs
 
-cast-t18 : tie.Need-cast-t18
-cast-t18 c = search needs
+bytes-of-word-requires : tie.Need-bytes-of-word-requires Inv-loop μ-loop
+bytes-of-word-requires c κs = search needs
 
-cast-t21 : tie.Need-cast-t21
-cast-t21 c = search needs
+slice-aggregate-lay : tie.Need-slice-aggregate-lay Inv-loop μ-loop
+slice-aggregate-lay c = search needs
 
-cast-t23 : tie.Need-cast-t23
-cast-t23 c = search needs
+mul-lay : tie.Need-mul-lay Inv-loop μ-loop
+mul-lay c = search needs
 
-cast-t26 : tie.Need-cast-t26
-cast-t26 c = search needs
+slice-aggregate-lay-2 : tie.Need-slice-aggregate-lay-2 Inv-loop μ-loop
+slice-aggregate-lay-2 c = search needs
 
-cast-t29 : tie.Need-cast-t29
-cast-t29 c = search needs
+lay-requires : tie.Need-lay-requires Inv-loop μ-loop
+lay-requires c κs = search needs
 
-cast-t32 : tie.Need-cast-t32
-cast-t32 c = search needs
+add-i : tie.Need-add-i Inv-loop μ-loop
+add-i c = search needs
 
-cast-t34 : tie.Need-cast-t34
-cast-t34 c = search needs
+loop-less : tie.Need-loop-less Inv-loop μ-loop
+loop-less c = search needs
 
-cast-t37 : tie.Need-cast-t37
-cast-t37 c = search needs
+loop-again : tie.Need-loop-again Inv-loop μ-loop
+loop-again c = let l = c .before .before .before .before .before .before in
+    let b = c .before .before .before .before .bytes-of-word in
+    let v = l .before .args .v in
+    let words = v .a ∷ v .b ∷ v .c ∷ v .d ∷ v .e ∷ v .f ∷ v .g ∷ v .h ∷ [] in
+    (omega arith, c .before .lay .kept .0 ∙ l .loop .inv .1, rw (c .before .lay .ensures) (words-more words (l .loop .out) (b .result) (l .loop .i) (omega arith) (omega arith) (l .loop .inv .2) (b .ensures)))
 
-cast-t40 : tie.Need-cast-t40
-cast-t40 c = search needs
-
-cast-t43 : tie.Need-cast-t43
-cast-t43 c = search needs
-
-cast-t45 : tie.Need-cast-t45
-cast-t45 c = search needs
-
-cast-t48 : tie.Need-cast-t48
-cast-t48 c = search needs
-
-cast-t51 : tie.Need-cast-t51
-cast-t51 c = search needs
-
-cast-t54 : tie.Need-cast-t54
-cast-t54 c = search needs
-
-cast-t56 : tie.Need-cast-t56
-cast-t56 c = search needs
-
-cast-t59 : tie.Need-cast-t59
-cast-t59 c = search needs
-
-cast-t62 : tie.Need-cast-t62
-cast-t62 c = search needs
-
-cast-t65 : tie.Need-cast-t65
-cast-t65 c = search needs
-
-cast-t67 : tie.Need-cast-t67
-cast-t67 c = search needs
-
-cast-t70 : tie.Need-cast-t70
-cast-t70 c = search needs
-
-cast-t73 : tie.Need-cast-t73
-cast-t73 c = search needs
-
-cast-t76 : tie.Need-cast-t76
-cast-t76 c = search needs
-
-cast-t78 : tie.Need-cast-t78
-cast-t78 c = search needs
-
-cast-t81 : tie.Need-cast-t81
-cast-t81 c = search needs
-
-cast-t84 : tie.Need-cast-t84
-cast-t84 c = search needs
-
-cast-t87 : tie.Need-cast-t87
-cast-t87 c = search needs
-
-cast-t89 : tie.Need-cast-t89
-cast-t89 c = search needs
-
-returns : tie.Need-returns
-unfolding bytes bytesOf
-returns c = simp div-one
+returns : tie.Need-returns Inv-loop μ-loop
+unfolding bytesOf
+returns c = let l = c .before in
+    let e : l .loop .i ≡ 8 = omega arith in
+    sym (take-all 32 (l .loop .out) (omega arith)) ∙ (rw e at (l .loop .inv .2))
 
 pub bytes-of-spec : {M : Type 1} → statement M
 bytes-of-spec =
     tie.close
     (tie.spec
-    cast-t4
-    cast-t7
-    cast-t10
-    cast-t12
-    cast-t15
-    cast-t18
-    cast-t21
-    cast-t23
-    cast-t26
-    cast-t29
-    cast-t32
-    cast-t34
-    cast-t37
-    cast-t40
-    cast-t43
-    cast-t45
-    cast-t48
-    cast-t51
-    cast-t54
-    cast-t56
-    cast-t59
-    cast-t62
-    cast-t65
-    cast-t67
-    cast-t70
-    cast-t73
-    cast-t76
-    cast-t78
-    cast-t81
-    cast-t84
-    cast-t87
-    cast-t89
+    Inv-loop
+    μ-loop
+    loop-holds
+    mul-bytes-of-word
+    array-read-bytes-of-word
+    bytes-of-word-requires
+    slice-aggregate-lay
+    mul-lay
+    slice-aggregate-lay-2
+    lay-requires
+    add-i
+    loop-less
+    loop-again
     returns)

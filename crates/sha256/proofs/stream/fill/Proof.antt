@@ -5,7 +5,8 @@ use Prim.Native.Nat.{_+_, _%_}
 use native.Mathlib.Omega.{arith}
 use lib.ListN.{length, take}
 use denote.Ref.{now}
-use Rattle.sha256.proofs.Absorbing.{laid, filled}
+use Rattle.sha256.proofs.Absorbing.{filled}
+use Rattle.sha256.proofs.Laid.{laid}
 use borrow.Author.Needs.{needs}
 use Rattle.sha256.proofs.stream.fill.Statement.{statement}
 use Rattle.sha256.proofs.stream.fill.Tie as tie

@@ -23,8 +23,8 @@ add-end-2 c = search needs
 slice-aggregate-lay-end : tie.Need-slice-aggregate-lay-end
 slice-aggregate-lay-end c = search needs
 
-array-share-prefix-buffer : tie.Need-array-share-prefix-buffer
-array-share-prefix-buffer c = let size : length (c .before .before .before .before .args .s .buffer) ≡ 64 = search needs in
+array-share-prefix-waiting : tie.Need-array-share-prefix-waiting
+array-share-prefix-waiting c = let size : length (c .before .before .before .before .args .s .buffer) ≡ 64 = search needs in
     omega arith
 
 slice-aggregate-lay-end-2 : tie.Need-slice-aggregate-lay-end-2
@@ -72,7 +72,7 @@ finish-spec =
     add-end
     add-end-2
     slice-aggregate-lay-end
-    array-share-prefix-buffer
+    array-share-prefix-waiting
     slice-aggregate-lay-end-2
     lay-end-requires
     array-share-prefix-tail

@@ -4,7 +4,7 @@ use Prim.Native.Nat.{ℕ, suc, _+_, _-_, _%_}
 use native.Mathlib.Omega.{arith}
 use lib.ListN.{length}
 use denote.Ref.{now}
-use Rattle.sha256.proofs.Absorbing.{ended}
+use Rattle.sha256.proofs.Laid.{ended}
 use Rattle.sha256.specs.Standard.{padding}
 use lib.ListN.{length-set, replicate, set}
 use lib.Seq.{paste}

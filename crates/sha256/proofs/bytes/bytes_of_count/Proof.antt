@@ -2,8 +2,8 @@
 use Rattle.sha256.specs.Standard.{bytes}
 use native.Mathlib.Nat.{div-one}
 use borrow.Author.Needs.{needs}
-use Rattle.sha256.proofs.stream.bytes_of_count.Statement.{statement}
-use Rattle.sha256.proofs.stream.bytes_of_count.Tie as tie
+use Rattle.sha256.proofs.bytes.bytes_of_count.Statement.{statement}
+use Rattle.sha256.proofs.bytes.bytes_of_count.Tie as tie
 
 cast-t4 : tie.Need-cast-t4
 cast-t4 c = search needs

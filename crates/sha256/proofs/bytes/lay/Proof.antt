@@ -8,8 +8,8 @@ use denote.Ref.{now}
 use lib.Seq.{paste, paste-zero, paste-suc}
 use native.Mathlib.Numerals.{add-one}
 use lib.ListN.{length-set}
-use Rattle.sha256.proofs.stream.lay.Statement.{statement}
-use Rattle.sha256.proofs.stream.lay.Tie as tie
+use Rattle.sha256.proofs.bytes.lay.Statement.{statement}
+use Rattle.sha256.proofs.bytes.lay.Tie as tie
 
 abbrev Inv-loop : tie.InvT-loop
 Inv-loop buffer₀ at part j₀ buffer j = (j ≤ length part) × (length buffer ≡ length buffer₀) × (buffer ≡ paste buffer₀ at part j)

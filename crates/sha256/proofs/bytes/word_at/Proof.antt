@@ -4,8 +4,8 @@ use Prim.Native.Nat.{_+_}
 use native.Mathlib.Omega.{arith}
 use Rattle.sha256.specs.Standard.{wordAt}
 use borrow.Author.Needs.{needs}
-use Rattle.sha256.proofs.block.word_at.Statement.{statement}
-use Rattle.sha256.proofs.block.word_at.Tie as tie
+use Rattle.sha256.proofs.bytes.word_at.Statement.{statement}
+use Rattle.sha256.proofs.bytes.word_at.Tie as tie
 
 shared-slice-read-result : tie.Need-shared-slice-read-result
 shared-slice-read-result c = search needs
