@@ -24,18 +24,18 @@ told-long m h = rw (lt-leb (length m) LONGEST h)
 -- no second outcome fits the contract
 pub one-outcome : (m : List ℕ) (r q : Hashed) → Hashes m r → Hashes m q → r ≡ q
 one-outcome m r q h k =
-    let a : r .answer ≡ q .answer = means-fixes (r .answer) (q .answer) (h .tells ∙ sym (k .tells)) in
+    let a : r .answer ≡ q .answer = means-fixes (r .answer) (q .answer) (h .says ∙ sym (k .says)) in
     let d : r .digest ≡ q .digest = h .shows ∙ ap (λ (t : Told). shownOf t m) (ap means a) ∙ sym (k .shows) in
     ap₂ (λ (x : Checked) (y : List ℕ). record { answer = x; digest = y }) a d
 
 -- nothing is lent to the call for writing: all that a refused call leaves is its answer and 32 zeros, whatever the message
 pub refused-shows-nothing : (m : List ℕ) (r : Hashed) → Hashes m r → LONGEST < length m → (means (r .answer) ≡ refused SHAPE CHOICES 0) × (r .digest ≡ replicate 32 0)
 refused-shows-nothing m r h long =
-    let t : means (r .answer) ≡ refused SHAPE CHOICES 0 = h .tells ∙ sym (told-long m long) in
+    let t : means (r .answer) ≡ refused SHAPE CHOICES 0 = h .says ∙ sym (told-long m long) in
     (t, h .shows ∙ ap (λ (x : Told). shownOf x m) t)
 
 -- any other call has the digest
 pub fine-shows-digest : (m : List ℕ) (r : Hashed) → Hashes m r → length m ≤ LONGEST → (means (r .answer) ≡ fine) × (r .digest ≡ digestOf m)
 fine-shows-digest m r h fits =
-    let t : means (r .answer) ≡ fine = h .tells ∙ sym (told-fine m fits) in
+    let t : means (r .answer) ≡ fine = h .says ∙ sym (told-fine m fits) in
     (t, h .shows ∙ ap (λ (x : Told). shownOf x m) t)

@@ -8,7 +8,7 @@ use borrow.Author.Tests.{lt-ltb, le-ltb}
 use lib.ListN.{length, getD, take, set}
 use lib.Seq.{take-suc-set, getD-take}
 use Rattle.sha256.specs.declared.block.Words.{Words}
-use Rattle.sha256.specs.Standard.{K, W, wordOf, wordAt, expand, turnsOf, turnOf}
+use Rattle.sha256.specs.Standard.{K, W, wordOf, wordAt, expandOf, turnsOf, turnOf}
 
 -- one word more of the schedule is stored
 pub W-more : (block w : List ℕ) (t v : ℕ) → t < length w → take t w ≡ W block t → v ≡ wordOf block t (W block t) → take (t + 1) (set w t v) ≡ W block (t + 1)
@@ -20,7 +20,7 @@ unfolding wordOf
 word-low block before t h = rw (lt-ltb t 16 h)
 
 pub word-high : (block w : List ℕ) (t : ℕ) → 16 ≤ t
-    → wordOf block t (take t w) ≡ expand (getD w (t - 2) 0) (getD w (t - 7) 0) (getD w (t - 15) 0) (getD w (t - 16) 0)
+    → wordOf block t (take t w) ≡ expandOf (getD w (t - 2) 0) (getD w (t - 7) 0) (getD w (t - 15) 0) (getD w (t - 16) 0)
 unfolding wordOf
 word-high block w t h =
     rw (le-ltb t 16 h)

@@ -3,7 +3,7 @@ use mathlib.Core.Path.{_≡_, refl}
 use mathlib.Core.List.{List, [], _∷_}
 use Prim.Native.Nat.{ℕ}
 use Rattle.sha256.proofs.Padding.{zeroBits}
-use Rattle.sha256.specs.Standard.{H0, K, T1, T2, W, _⊞_, Ch, Maj, ROTR, blockAt, blockCount, bytes, bytesOf, bytesOfWords, compressOf, digestOf, expand, hashValue, pad, padding, sumOf, turnOf, turnsOf, wordAt, wordOf, zeros, Σ0, Σ1, σ0, σ1}
+use Rattle.sha256.specs.Standard.{H0, K, T1, T2, W, _⊞_, Ch, Maj, ROTR, blockAt, blockCount, bytes, bytesOf, bytesOfWords, compressOf, digestOf, expandOf, hashValue, pad, padding, sumOf, turnOf, turnsOf, wordAt, wordOf, zeros, Σ0, Σ1, σ0, σ1}
 
 -- §5.1.1: the message "abc", of 24 bits, is padded with the bit 1 and then 448 - (24 + 1) = 423 zeros
 zeros-of-abc : zeroBits 3 ≡ 423
@@ -28,5 +28,5 @@ digests :
     (digestOf [] ≡ bytesOfWords (0xe3b0c442 ∷ 0x98fc1c14 ∷ 0x9afbf4c8 ∷ 0x996fb924 ∷ 0x27ae41e4 ∷ 0x649b934c ∷ 0xa495991b ∷ 0x7852b855 ∷ [])) ×
     (digestOf abc ≡ bytesOfWords (0xba7816bf ∷ 0x8f01cfea ∷ 0x414140de ∷ 0x5dae2223 ∷ 0xb00361a3 ∷ 0x96177a9c ∷ 0xb410ff61 ∷ 0xf20015ad ∷ [])) ×
     (digestOf twoBlocks ≡ bytesOfWords (0x248d6a61 ∷ 0xd20638b8 ∷ 0xe5c02693 ∷ 0x0c3e6039 ∷ 0xa33ce459 ∷ 0x64ff2167 ∷ 0xf6ecedd4 ∷ 0x19db06c1 ∷ []))
-unfolding H0 K T1 T2 W _⊞_ Ch Maj ROTR blockAt blockCount bytes bytesOf bytesOfWords compressOf digestOf expand hashValue pad padding sumOf turnOf turnsOf wordAt wordOf zeros Σ0 Σ1 σ0 σ1 abc twoBlocks
+unfolding H0 K T1 T2 W _⊞_ Ch Maj ROTR blockAt blockCount bytes bytesOf bytesOfWords compressOf digestOf expandOf hashValue pad padding sumOf turnOf turnsOf wordAt wordOf zeros Σ0 Σ1 σ0 σ1 abc twoBlocks
 digests = (refl, refl, refl)

@@ -44,14 +44,14 @@ drop-zeros : (n k : ℕ) → drop {A = ℕ} k (replicate (k + n) 0) ≡ replicat
 drop-zeros n k = rw (← replicate-append-replicate {A = ℕ} k n 0) (drop-at (replicate k 0) (replicate n 0) k (length-replicate {A = ℕ} k 0))
 
 -- the bytes w that wait, the mark, z zeros and the count of bits, laid into zeros d
-pub ended : (u z : ℕ) (w bits d : List ℕ) → z ≤ u → d ≡ replicate (length w + suc u) 0
-    → take (length w + z + 1 + length bits) (paste (set (paste d 0 w (length w)) (length w) 0x80) (length w + z + 1) bits (length bits)) ≡ w ++ (0x80 ∷ (replicate z 0 ++ bits))
-ended u z w bits d h e =
-    let o : 0 + length w ≡ length w = omega arith in
-    let i : length w + z + 1 ≡ length w + suc z = omega arith in
+pub ended : (at u z : ℕ) (w bits d : List ℕ) → length w ≡ at → z ≤ u → d ≡ replicate (at + suc u) 0
+    → take (at + z + 1 + length bits) (paste (set (paste d 0 w (length w)) at 0x80) (at + z + 1) bits (length bits)) ≡ w ++ (0x80 ∷ (replicate z 0 ++ bits))
+ended at u z w bits d size h e =
+    let o : 0 + length w ≡ at = omega arith in
+    let i : at + z + 1 ≡ length w + suc z = omega arith in
     let t = w ++ (0x80 ∷ replicate u 0) in
-    let first : paste d 0 w (length w) ≡ w ++ (0 ∷ replicate u 0) = rw (e, o, take-length w, drop-zeros (suc u) (length w)) in
-    let second : set (paste d 0 w (length w)) (length w) 0x80 ≡ t = rw first (set-at w 0 (replicate u 0) 0x80 (length w) refl) in
-    let size : length t ≡ length w + suc u = simp (length-append, length-replicate) in
-    let front : take (length w + z + 1) t ≡ w ++ (0x80 ∷ replicate z 0) = rw (i, take-append-add w (0x80 ∷ replicate u 0) (suc z), take-zeros u z h) in
-    rw (second, laid t bits (length w + z + 1) (omega arith), front) (append-assoc w (0x80 ∷ replicate z 0) bits)
+    let first : paste d 0 w (length w) ≡ w ++ (0 ∷ replicate u 0) = rw (e, take-length w, o, drop-zeros (suc u) at) in
+    let second : set (paste d 0 w (length w)) at 0x80 ≡ t = rw first (set-at w 0 (replicate u 0) 0x80 at size) in
+    let room : length t ≡ length w + suc u = simp (length-append, length-replicate) in
+    let front : take (at + z + 1) t ≡ w ++ (0x80 ∷ replicate z 0) = rw (i, take-append-add w (0x80 ∷ replicate u 0) (suc z), take-zeros u z h) in
+    rw (second, laid t bits (at + z + 1) (omega arith), front) (append-assoc w (0x80 ∷ replicate z 0) bits)

@@ -27,15 +27,15 @@ unfolding bytes
 length-bytes zero x = refl
 length-bytes (suc k) x = ap suc (length-bytes k x)
 
-pub length-padding : (n : ℕ) → length (padding n) ≡ zeros n + 9
+length-padding : (n : ℕ) → length (padding n) ≡ zeros n + 9
 unfolding padding
 length-padding n = simp (length-append, length-replicate, length-bytes) (omega arith)
 
-pub length-pad : (m : List ℕ) → length (pad m) ≡ (length m + 72) / 64 * 64
+length-pad : (m : List ℕ) → length (pad m) ≡ (length m + 72) / 64 * 64
 unfolding pad zeros
 length-pad m = simp (length-append, length-padding) (omega arith)
 
--- the closed form
+-- the closed form of the number of blocks
 pub block-count : (m : List ℕ) → blockCount m ≡ (length m + 72) / 64
 unfolding blockCount
 block-count m = rw (length-pad m) (omega arith)

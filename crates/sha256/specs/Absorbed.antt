@@ -7,12 +7,12 @@ use Rattle.sha256.specs.Standard.{hashValue}
 use Rattle.sha256.specs.declared.block.Words.{Words}
 use Rattle.sha256.specs.declared.stream.Stream.{Stream}
 
--- a hash value is that of a message, which is whole blocks
+-- v is the hash value of a message of whole blocks
 pub record Chained (v : Words) (m : List ℕ) : Type 0 where
   pub whole : length m % 64 ≡ 0
   pub value : v ≡ hashValue m (length m / 64)
 
--- the count is the message's length, the words are the hash value after its whole blocks, and the buffer begins with the bytes since
+-- the stream s has absorbed the message m: the count is the message's length, the words are the hash value after its whole blocks, and the buffer begins with the bytes since, which wait
 pub record Absorbed (s : Stream) (m : List ℕ) : Type 0 where
   pub count : s .count ≡ length m
   pub words : s .words ≡ hashValue m (length m / 64)

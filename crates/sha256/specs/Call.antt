@@ -25,5 +25,5 @@ shownOf (refused number buffer place) message = replicate 32 0
 
 -- the contract of the call
 pub record Hashes (message : List ℕ) (r : Hashed) : Type 0 where
-  pub tells : means (r .answer) ≡ toldOf message
+  pub says : means (r .answer) ≡ toldOf message
   pub shows : r .digest ≡ shownOf (means (r .answer)) message

@@ -1,5 +1,5 @@
 -- SHA-256 of a message that is a list of bytes, by the names and in the order of FIPS 180-4, whose sections § cites.
--- A byte is a number below 2 ^ 8, a word a number below 2 ^ 32. The standard counts a message in bits, eight to a byte.
+-- A byte is a number below 2 ^ 8, a word a number below 2 ^ 32. The standard counts a message in bits, eight to a byte, and takes fewer than 2 ^ 64 of them.
 use mathlib.Core.Bool.{Bool, true, false}
 use mathlib.Core.List.{List, [], _∷_, _++_}
 use Prim.Native.Nat.{ℕ, zero, suc, _+_, _-_, _*_, _/_, _%_, _^_}
@@ -12,11 +12,6 @@ use Rattle.sha256.specs.declared.block.Words.{Words}
 unfoldable pub bytes : ℕ → ℕ → List ℕ
 bytes zero x = []
 bytes (suc k) x = x / 2 ^ (8 * k) % 2 ^ 8 ∷ bytes k x
-
--- §3.1: the bytes of words, one word after the other
-unfoldable pub bytesOfWords : List ℕ → List ℕ
-bytesOfWords [] = []
-bytesOfWords (w ∷ ws) = bytes 4 w ++ bytesOfWords ws
 
 -- §3.1: the word of the four bytes from a place on, the highest first
 unfoldable pub wordAt : List ℕ → ℕ → ℕ
@@ -71,8 +66,8 @@ K =
     0x748f82ee ∷ 0x78a5636f ∷ 0x84c87814 ∷ 0x8cc70208 ∷ 0x90befffa ∷ 0xa4506ceb ∷ 0xbef9a3f7 ∷ 0xc67178f2 ∷
     []
 
--- §5.1.1: the padded message: the message; the bit 1, as the first of a byte; the least number of zeros; the count of bits in 64 bits.
--- That the whole bytes of zeros are so many, and that fewer zeros would not do: zeros-fit and zeros-least in proofs/Padding.antt
+-- §5.1.1: the padded message: the message, the bit 1 and seven zeros, the least number of bytes of zeros, and the count of bits in eight bytes.
+-- That these zeros end the block, and that fewer would not: zeros-fit and zeros-least in proofs/Padding.antt
 unfoldable pub zeros : ℕ → ℕ
 zeros n = (119 - n % 64) % 64
 
@@ -103,9 +98,10 @@ H0 =
       h = 0x5be0cd19;
     }
 
--- §6.2.2, 1: word t of the schedule of a block, where `before` has the words before it; then the first t words
-unfoldable pub expand : ℕ → ℕ → ℕ → ℕ → ℕ
-expand w2 w7 w15 w16 = σ1 w2 ⊞ w7 ⊞ σ0 w15 ⊞ w16
+-- §6.2.2, 1: the message schedule. A word from the 16th on, of those 2, 7, 15 and 16 before it; word t of a block's schedule, where `before` has the
+-- words before it; the first t words
+unfoldable pub expandOf : ℕ → ℕ → ℕ → ℕ → ℕ
+expandOf w2 w7 w15 w16 = σ1 w2 ⊞ w7 ⊞ σ0 w15 ⊞ w16
 
 abbrev pub either : {A : Type 0} → Bool → A → A → A
 either true x y = x
@@ -115,13 +111,13 @@ unfoldable pub wordOf : List ℕ → ℕ → List ℕ → ℕ
 wordOf block t before =
     either (ltb t 16)
     (wordAt block (4 * t))
-    (expand (getD before (t - 2) 0) (getD before (t - 7) 0) (getD before (t - 15) 0) (getD before (t - 16) 0))
+    (expandOf (getD before (t - 2) 0) (getD before (t - 7) 0) (getD before (t - 15) 0) (getD before (t - 16) 0))
 
 unfoldable pub W : List ℕ → ℕ → List ℕ
 W block zero = []
 W block (suc t) = W block t ++ (wordOf block t (W block t) ∷ [])
 
--- §6.2.2, 3: one turn, at a constant k and a word w of the schedule; then the first t turns, from the working variables s on
+-- §6.2.2, 3: one turn, of the working variables s at a constant k and a word w of the schedule; the first t turns
 unfoldable pub T1 : Words → ℕ → ℕ → ℕ
 T1 s k w = s .h ⊞ Σ1 (s .e) ⊞ Ch (s .e) (s .f) (s .g) ⊞ k ⊞ w
 
@@ -145,7 +141,7 @@ unfoldable pub turnsOf : List ℕ → ℕ → Words → Words
 turnsOf ws zero s = s
 turnsOf ws (suc t) s = turnOf (turnsOf ws t s) (getD K t 0) (getD ws t 0)
 
--- §6.2.2, 4: word by word; then 2 to 4 in one: the hash value after one block more
+-- §6.2.2, 4: the sum, word by word; then steps 1 to 4: the hash value that follows v, after one block more
 unfoldable pub sumOf : Words → Words → Words
 sumOf s v =
     record {
@@ -167,7 +163,11 @@ unfoldable pub hashValue : List ℕ → ℕ → Words
 hashValue p zero = H0
 hashValue p (suc i) = compressOf (hashValue p i) (blockAt p i)
 
--- §6.2.2: the message digest, of 32 bytes
+-- §6.2.2: the message digest: the bytes of the eight words, one word after the other
+unfoldable pub bytesOfWords : List ℕ → List ℕ
+bytesOfWords [] = []
+bytesOfWords (w ∷ ws) = bytes 4 w ++ bytesOfWords ws
+
 unfoldable pub bytesOf : Words → List ℕ
 bytesOf v = bytesOfWords (v .a ∷ v .b ∷ v .c ∷ v .d ∷ v .e ∷ v .f ∷ v .g ∷ v .h ∷ [])
 

@@ -12,7 +12,7 @@ use crate::word::small_sigma_0;
 use crate::word::small_sigma_1;
 ghost use mathlib.Core.Path.{_≡_};
 ghost use lib.ListN.{length};
-ghost use Rattle.sha256.specs.Standard.{expand, W, turnOf, turnsOf, compressOf, bytesOf};
+ghost use Rattle.sha256.specs.Standard.{expandOf, W, turnOf, turnsOf, compressOf, bytesOf};
 
 // The eight words of a hash value, or the eight working variables.
 pub struct Words {
@@ -27,8 +27,8 @@ pub struct Words {
 }
 
 // A word of the schedule from the words 2, 7, 15 and 16 places before it.
-fn expanded(w2: u32, w7: u32, w15: u32, w16: u32) -> u32
-    ensures { λ r. ⌜ r ≡ expand w2 w7 w15 w16 ⌝ }
+fn expand(w2: u32, w7: u32, w15: u32, w16: u32) -> u32
+    ensures { λ r. ⌜ r ≡ expandOf w2 w7 w15 w16 ⌝ }
 {
     plus(plus(plus(small_sigma_1(w2), w7), small_sigma_0(w15)), w16)
 }
@@ -45,7 +45,7 @@ fn schedule(block: &[u8]) -> [u32; 64]
         t += 1;
     }
     while t < 64 {
-        w[t] = expanded(w[t - 2], w[t - 7], w[t - 15], w[t - 16]);
+        w[t] = expand(w[t - 2], w[t - 7], w[t - 15], w[t - 16]);
         t += 1;
     }
     w

@@ -119,30 +119,28 @@ fn zeros_of(n: usize) -> usize
     (119 - n % 64) % 64
 }
 
-// Lays the bytes that wait at the end of a message of n bytes, and its padding, into a buffer of zeros.
-fn lay_end(tail: &mut [u8], waiting: &[u8], n: usize)
-    requires { ⌜ (n < 2 ^ 60) × (length (now waiting) ≡ n % 64) × (now tail ≡ replicate 128 0) ⌝ }
-    ensures { λ _. ⌜ take (n % 64 + zeros n + 9) (now (tail .exit)) ≡ now (waiting .entry) ++ padding n ⌝ }
+// Lays the bytes that wait in the buffer at the end of a message of n bytes, and its padding, into a tail of zeros.
+fn lay_end(tail: &mut [u8], buffer: &[u8], n: usize)
+    requires { ⌜ (n < 2 ^ 61) × (length (now buffer) ≡ 64) × (now tail ≡ replicate 128 0) ⌝ }
+    ensures { λ _. ⌜ take (n % 64 + zeros n + 9) (now (tail .exit)) ≡ take (n % 64) (now (buffer .entry)) ++ padding n ⌝ }
 {
-    let at = waiting.len();
+    let at = n % 64;
     let bits_at = at + zeros_of(n) + 1;
     let bits = bytes_of_count(8 * (n as u64));
-    lay(tail, 0, waiting);
+    lay(tail, 0, &buffer[..at]);
     tail[at] = 0x80;
     lay(tail, bits_at, &bits);
 }
 
 // The digest of all that was absorbed.
 pub fn finish(s: Stream) -> [u8; 32]
-    requires { ⌜ s .count < 2 ^ 60 ⌝ }
+    requires { ⌜ s .count < 2 ^ 61 ⌝ }
     ensures { λ r. ⌜ ((m : List ℕ) → Absorbed s m → r ≡ digestOf m) ⌝ }
 {
     let n = s.count;
-    let at = n % 64;
-    let end = at + zeros_of(n) + 9;
+    let end = n % 64 + zeros_of(n) + 9;
     let words = s.words;
-    let waiting = s.buffer;
     let mut tail = [0u8; 128];
-    lay_end(&mut tail, &waiting[..at], n);
+    lay_end(&mut tail, &s.buffer, n);
     bytes_of(blocks(words, &tail[..end]))
 }

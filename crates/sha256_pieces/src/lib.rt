@@ -8,12 +8,12 @@ use sha256::stream::start;
 ghost use mathlib.Core.Path.{_≡_};
 ghost use Prim.Native.Nat.{_<_, _≤_};
 ghost use lib.ListN.{length};
-ghost use Rattle.sha256.specs.Call.{Hashes, shownOf, toldOf};
+ghost use Rattle.sha256.specs.Call.{LONGEST, Hashes, shownOf, toldOf};
 ghost use Rattle.sha256.specs.Standard.{digestOf};
 
 // The digest of a message that is absorbed in pieces of `size` bytes, the last of them the rest.
 fn pieces(message: &[u8], size: usize) -> [u8; 32]
-    requires { ⌜ (length (now message) ≤ 65535) × (0 < size) ⌝ }
+    requires { ⌜ (length (now message) ≤ LONGEST) × (0 < size) ⌝ }
     ensures { λ r. ⌜ r ≡ digestOf (now (message .entry)) ⌝ }
 {
     let mut s = start();

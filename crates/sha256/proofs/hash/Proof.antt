@@ -13,7 +13,7 @@ refuse-requires c κs = search needs
 
 returns : tie.Need-returns
 returns c = let m = now (c .before .before .before .args .message) in
-    record { tells = c .refuse .ensures ∙ told-long m (omega arith); shows = rw (c .refuse .ensures) }
+    record { says = c .refuse .ensures ∙ told-long m (omega arith); shows = rw (c .refuse .ensures) }
 
 start-requires : tie.Need-start-requires
 start-requires c κs = search needs
@@ -26,7 +26,7 @@ finish-requires c κs = search needs
 
 returns-2 : tie.Need-returns-2
 returns-2 c = let m = now (c .before .before .before .before .before .args .message) in
-    record { tells = told-fine m (omega arith); shows = c .finish .ensures m (c .before .absorb .ensures .message [] (c .before .before .start .ensures)) }
+    record { says = told-fine m (omega arith); shows = c .finish .ensures m (c .before .absorb .ensures .message [] (c .before .before .start .ensures)) }
 
 pub hash-spec : {M : Type 1} → statement M
 hash-spec =

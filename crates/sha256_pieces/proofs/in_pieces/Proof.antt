@@ -22,7 +22,7 @@ pieces-requires : tie.Need-pieces-requires
 pieces-requires c κs = search needs
 
 returns-3 : tie.Need-returns-3
-returns-3 c = record { tells = told-fine (now (c .before .before .before .before .args .message)) (omega arith); shows = c .pieces .ensures }
+returns-3 c = record { says = told-fine (now (c .before .before .before .before .args .message)) (omega arith); shows = c .pieces .ensures }
 
 pub in-pieces-spec : {M : Type 1} → statement M
 in-pieces-spec =

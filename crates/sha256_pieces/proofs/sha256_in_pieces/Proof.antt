@@ -8,7 +8,7 @@ in-pieces-requires c κs = search needs
 
 returns : tie.Need-returns
 returns c = let h = c .before .in-pieces .ensures in
-    rw (← h .tells) (h .shows)
+    rw (← h .says) (h .shows)
 
 pub sha256-in-pieces-spec : {M : Type 1} → statement M
 sha256-in-pieces-spec = tie.close (tie.spec in-pieces-requires returns)

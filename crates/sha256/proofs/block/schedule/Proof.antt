@@ -57,44 +57,44 @@ loop-again c = let l = c .before .before in
 loop2-holds : tie.Need-loop2-holds Inv-loop μ-loop Inv-loop2 μ-loop2
 loop2-holds c = search needs
 
-sub-expanded : tie.Need-sub-expanded Inv-loop μ-loop Inv-loop2 μ-loop2
-sub-expanded c = search needs
+sub-expand : tie.Need-sub-expand Inv-loop μ-loop Inv-loop2 μ-loop2
+sub-expand c = search needs
 
-mul-expanded : tie.Need-mul-expanded Inv-loop μ-loop Inv-loop2 μ-loop2
-mul-expanded c = search needs
+mul-expand : tie.Need-mul-expand Inv-loop μ-loop Inv-loop2 μ-loop2
+mul-expand c = search needs
 
-array-read-expanded : tie.Need-array-read-expanded Inv-loop μ-loop Inv-loop2 μ-loop2
-array-read-expanded c = search needs
+array-read-expand : tie.Need-array-read-expand Inv-loop μ-loop Inv-loop2 μ-loop2
+array-read-expand c = search needs
 
-sub-expanded-2 : tie.Need-sub-expanded-2 Inv-loop μ-loop Inv-loop2 μ-loop2
-sub-expanded-2 c = search needs
+sub-expand-2 : tie.Need-sub-expand-2 Inv-loop μ-loop Inv-loop2 μ-loop2
+sub-expand-2 c = search needs
 
-mul-expanded-2 : tie.Need-mul-expanded-2 Inv-loop μ-loop Inv-loop2 μ-loop2
-mul-expanded-2 c = search needs
+mul-expand-2 : tie.Need-mul-expand-2 Inv-loop μ-loop Inv-loop2 μ-loop2
+mul-expand-2 c = search needs
 
-array-read-expanded-2 : tie.Need-array-read-expanded-2 Inv-loop μ-loop Inv-loop2 μ-loop2
-array-read-expanded-2 c = search needs
+array-read-expand-2 : tie.Need-array-read-expand-2 Inv-loop μ-loop Inv-loop2 μ-loop2
+array-read-expand-2 c = search needs
 
-sub-expanded-3 : tie.Need-sub-expanded-3 Inv-loop μ-loop Inv-loop2 μ-loop2
-sub-expanded-3 c = search needs
+sub-expand-3 : tie.Need-sub-expand-3 Inv-loop μ-loop Inv-loop2 μ-loop2
+sub-expand-3 c = search needs
 
-mul-expanded-3 : tie.Need-mul-expanded-3 Inv-loop μ-loop Inv-loop2 μ-loop2
-mul-expanded-3 c = search needs
+mul-expand-3 : tie.Need-mul-expand-3 Inv-loop μ-loop Inv-loop2 μ-loop2
+mul-expand-3 c = search needs
 
-array-read-expanded-3 : tie.Need-array-read-expanded-3 Inv-loop μ-loop Inv-loop2 μ-loop2
-array-read-expanded-3 c = search needs
+array-read-expand-3 : tie.Need-array-read-expand-3 Inv-loop μ-loop Inv-loop2 μ-loop2
+array-read-expand-3 c = search needs
 
-sub-expanded-4 : tie.Need-sub-expanded-4 Inv-loop μ-loop Inv-loop2 μ-loop2
-sub-expanded-4 c = search needs
+sub-expand-4 : tie.Need-sub-expand-4 Inv-loop μ-loop Inv-loop2 μ-loop2
+sub-expand-4 c = search needs
 
-mul-expanded-4 : tie.Need-mul-expanded-4 Inv-loop μ-loop Inv-loop2 μ-loop2
-mul-expanded-4 c = search needs
+mul-expand-4 : tie.Need-mul-expand-4 Inv-loop μ-loop Inv-loop2 μ-loop2
+mul-expand-4 c = search needs
 
-array-read-expanded-4 : tie.Need-array-read-expanded-4 Inv-loop μ-loop Inv-loop2 μ-loop2
-array-read-expanded-4 c = search needs
+array-read-expand-4 : tie.Need-array-read-expand-4 Inv-loop μ-loop Inv-loop2 μ-loop2
+array-read-expand-4 c = search needs
 
-expanded-requires : tie.Need-expanded-requires Inv-loop μ-loop Inv-loop2 μ-loop2
-expanded-requires c κs = search needs
+expand-requires : tie.Need-expand-requires Inv-loop μ-loop Inv-loop2 μ-loop2
+expand-requires c κs = search needs
 
 mul-w-2 : tie.Need-mul-w-2 Inv-loop μ-loop Inv-loop2 μ-loop2
 mul-w-2 c = search needs
@@ -115,7 +115,7 @@ loop2-again c = let l = c .before .before in
     let t = l .loop2 .t in (
       omega arith,
       omega arith,
-      W-more b w t (c .expanded .result) (omega arith) (l .loop2 .inv .2) (c .expanded .ensures ∙ sym (word-high b w t (omega arith)) ∙ ap (wordOf b t) (l .loop2 .inv .2)),
+      W-more b w t (c .expand .result) (omega arith) (l .loop2 .inv .2) (c .expand .ensures ∙ sym (word-high b w t (omega arith)) ∙ ap (wordOf b t) (l .loop2 .inv .2)),
       simp length-set (omega arith),
     )
 
@@ -141,19 +141,19 @@ schedule-spec =
     loop-less
     loop-again
     loop2-holds
-    sub-expanded
-    mul-expanded
-    array-read-expanded
-    sub-expanded-2
-    mul-expanded-2
-    array-read-expanded-2
-    sub-expanded-3
-    mul-expanded-3
-    array-read-expanded-3
-    sub-expanded-4
-    mul-expanded-4
-    array-read-expanded-4
-    expanded-requires
+    sub-expand
+    mul-expand
+    array-read-expand
+    sub-expand-2
+    mul-expand-2
+    array-read-expand-2
+    sub-expand-3
+    mul-expand-3
+    array-read-expand-3
+    sub-expand-4
+    mul-expand-4
+    array-read-expand-4
+    expand-requires
     mul-w-2
     array-write-w-2
     add-t-2

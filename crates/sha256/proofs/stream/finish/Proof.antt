@@ -1,5 +1,5 @@
 -- `finish` goes on from the hash value of the whole blocks, over the bytes that wait and the padding: together the padded message.
-use mathlib.Core.Path.{_≡_, refl, sym, ap, _∙_}
+use mathlib.Core.Path.{_≡_, sym, ap, _∙_}
 use mathlib.Core.List.{List, _++_}
 use Prim.Native.Nat.{ℕ, _+_, _%_}
 use native.Mathlib.Omega.{arith}
@@ -23,41 +23,30 @@ add-end-2 c = search needs
 slice-aggregate-lay-end : tie.Need-slice-aggregate-lay-end
 slice-aggregate-lay-end c = search needs
 
-array-share-prefix-waiting : tie.Need-array-share-prefix-waiting
-array-share-prefix-waiting c = let size : length (c .before .before .before .before .args .s .buffer) ≡ 64 = search needs in
-    omega arith
-
-slice-aggregate-lay-end-2 : tie.Need-slice-aggregate-lay-end-2
-slice-aggregate-lay-end-2 c = let s = c .before .before .before .before .before .args .s in
-    let size : length (s .buffer) ≡ 64 = search needs in
-    sym (length-take-le (s .count % 64) (s .buffer) (omega arith))
-
 lay-end-requires : tie.Need-lay-end-requires
-lay-end-requires c κs = let s = c .before .before .before .before .before .args .s in
-    let size : length (s .buffer) ≡ 64 = search needs in
-    (omega arith, length-take-le (s .count % 64) (s .buffer) (omega arith), refl)
+lay-end-requires c κs = search needs
 
 array-share-prefix-tail : tie.Need-array-share-prefix-tail
-array-share-prefix-tail c = let size : length (c .before .lay-end .last .0) ≡ 128 = c .before .lay-end .kept .0 in
-    omega (arith, c .before .before .before .before .before .before .zeros-of .ensures .1)
+array-share-prefix-tail c = search needs
 
 slice-aggregate-blocks : tie.Need-slice-aggregate-blocks
 slice-aggregate-blocks c = let t = c .before .before .lay-end .last .0 in
     let size : length t ≡ 128 = c .before .before .lay-end .kept .0 in
-    sym (length-take-le (c .before .before .before .before .before .before .before .before .args .s .count % 64 + c .before .before .before .before .before .before .before .zeros-of .result + 9) t (omega (arith, c .before .before .before .before .before .before .before .zeros-of .ensures .1)))
+    sym (length-take-le (c .before .before .before .before .before .before .before .before .before .args .t1 .count % 64 + c .before .before .before .before .before .before .before .before .zeros-of .result + 9) t (omega (arith, c .before .before .before .before .before .before .before .before .zeros-of .ensures .1)))
 
 blocks-requires : tie.Need-blocks-requires
 blocks-requires c κs = let t = c .before .before .lay-end .last .0 in
     let size : length t ≡ 128 = c .before .before .lay-end .kept .0 in
-    omega (arith, c .before .before .before .before .before .before .before .zeros-of .ensures .2, length-take-le (c .before .before .before .before .before .before .before .before .args .s .count % 64 + c .before .before .before .before .before .before .before .zeros-of .result + 9) t (omega (arith, c .before .before .before .before .before .before .before .zeros-of .ensures .1)))
+    let z = c .before .before .before .before .before .before .before .before .zeros-of in
+    omega (arith, z .ensures .2, length-take-le (c .before .before .before .before .before .before .before .before .before .args .t1 .count % 64 + z .result + 9) t (omega (arith, z .ensures .1)))
 
 bytes-of-requires : tie.Need-bytes-of-requires
 bytes-of-requires c κs = search needs
 
 returns : tie.Need-returns
 returns c = λ m k.
-    let s = c .before .before .before .before .before .before .before .before .before .before .args .s in
-    let z = c .before .before .before .before .before .before .before .before .before .zeros-of in
+    let s = c .before .before .before .before .before .before .before .before .before .before .before .args .t1 in
+    let z = c .before .before .before .before .before .before .before .before .before .before .zeros-of in
     let t = take (s .count % 64 + z .result + 9) (c .before .before .before .before .lay-end .last .0) in
     let e : t ≡ take (s .count % 64) (s .buffer) ++ padding (s .count) = rw (z .ensures .0) (c .before .before .before .before .lay-end .ensures) in
     let j : wholeOf m ++ t ≡ m ++ padding (length m) =
@@ -72,8 +61,6 @@ finish-spec =
     add-end
     add-end-2
     slice-aggregate-lay-end
-    array-share-prefix-waiting
-    slice-aggregate-lay-end-2
     lay-end-requires
     array-share-prefix-tail
     slice-aggregate-blocks

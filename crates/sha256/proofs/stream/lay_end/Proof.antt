@@ -1,13 +1,13 @@
 -- `lay_end` lays the bytes that wait, the mark and the count of bits into zeros; the zeros left between are those of the padding.
-use mathlib.Core.Path.{_≡_, ap, _∙_}
+use mathlib.Core.Path.{_≡_, sym, ap, _∙_}
 use Prim.Native.Nat.{ℕ, suc, _+_, _-_, _%_}
 use native.Mathlib.Omega.{arith}
-use lib.ListN.{length}
+use lib.ListN.{length, take}
 use denote.Ref.{now}
 use Rattle.sha256.proofs.Laid.{ended}
 use Rattle.sha256.specs.Standard.{padding}
 use lib.ListN.{length-set, replicate, set}
-use lib.Seq.{paste}
+use lib.Seq.{length-take-le, paste}
 use borrow.Author.Needs.{needs}
 use Rattle.sha256.proofs.stream.lay_end.Statement.{statement}
 use Rattle.sha256.proofs.stream.lay_end.Tie as tie
@@ -27,43 +27,52 @@ mul-bytes-of-count c = search needs
 bytes-of-count-requires : tie.Need-bytes-of-count-requires
 bytes-of-count-requires c κs = search needs
 
+slice-aggregate-lay : tie.Need-slice-aggregate-lay
+slice-aggregate-lay c = let p = c .before .before .before .before .before .before in
+    let n = p .args .n in
+    let w : length (take (n % 64) (now (p .args .buffer))) ≡ n % 64 = length-take-le (n % 64) (now (p .args .buffer)) (omega arith) in
+    sym w
+
 lay-requires : tie.Need-lay-requires
-lay-requires c κs = let p = c .before .before .before .before .before in
+lay-requires c κs = let p = c .before .before .before .before .before .before in
+    let n = p .args .n in
+    let w : length (take (n % 64) (now (p .args .buffer))) ≡ n % 64 = length-take-le (n % 64) (now (p .args .buffer)) (omega arith) in
     let size : length (now (p .args .tail)) ≡ 128 = ap length (p .pre .2) in
     omega arith
 
 slice-write-tail : tie.Need-slice-write-tail
-slice-write-tail c = let p = c .before .before .before .before .before .before .before .before in
+slice-write-tail c = let p = c .before .before .before .before .before .before .before .before .before in
     let size : length (now (p .args .tail)) ≡ 128 = ap length (p .pre .2) in
     omega arith
 
-slice-aggregate-lay : tie.Need-slice-aggregate-lay
-slice-aggregate-lay c = search needs
+slice-aggregate-lay-2 : tie.Need-slice-aggregate-lay-2
+slice-aggregate-lay-2 c = search needs
 
 lay-requires-2 : tie.Need-lay-requires-2
-lay-requires-2 c κs = let p = c .before .before .before .before .before .before .before .before .before .before in
+lay-requires-2 c κs = let p = c .before .before .before .before .before .before .before .before .before .before .before in
     let size : length (now (p .args .tail)) ≡ 128 = ap length (p .pre .2) in
-    let eight : length (c .before .before .before .before .before .before .bytes-of-count .result) ≡ 8 = search needs in
-    simp length-set (omega (arith, c .before .before .before .before .lay .kept .0, c .before .before .before .before .before .before .before .zeros-of .ensures .1))
+    let eight : length (c .before .before .before .before .before .before .before .bytes-of-count .result) ≡ 8 = search needs in
+    simp length-set (omega (arith, c .before .before .before .before .lay .kept .0, c .before .before .before .before .before .before .before .before .zeros-of .ensures .1))
 
 same-length : tie.Need-same-length
 same-length c = c .before .before .lay2 .kept .0 ∙ simp length-set (c .before .before .before .before .before .before .before .lay .kept .0)
 
 returns : tie.Need-returns
 unfolding padding
-returns c = let p = c .before .before .before .before .before .before .before .before .before .before .before .before .before in
+returns c = let p = c .before .before .before .before .before .before .before .before .before .before .before .before .before .before in
     let n = p .args .n in
-    let w = now (p .args .waiting) in
-    let z = c .before .before .before .before .before .before .before .before .before .before .zeros-of in
-    let bits = c .before .before .before .before .before .before .before .before .before .bytes-of-count in
+    let w : length (take (n % 64) (now (p .args .buffer))) ≡ n % 64 = length-take-le (n % 64) (now (p .args .buffer)) (omega arith) in
+    let z = c .before .before .before .before .before .before .before .before .before .before .before .zeros-of in
+    let bits = c .before .before .before .before .before .before .before .before .before .before .bytes-of-count in
     let eight : length (bits .result) ≡ 8 = search needs in
+    let front = take (n % 64) (now (p .args .buffer)) in
     let d = now (p .args .tail) in
-    let e : 128 ≡ length w + suc (127 - length w) = omega arith in
-    let end : length w + z .result + 1 + length (bits .result) ≡ n % 64 + z .result + 9 = omega arith in
-    let laid : c .before .before .lay2 .last .0 ≡ paste (set (paste d 0 w (length w)) (length w) 0x80) (length w + z .result + 1) (bits .result) (length (bits .result)) =
+    let e : 128 ≡ n % 64 + suc (127 - n % 64) = omega arith in
+    let end : n % 64 + z .result + 1 + length (bits .result) ≡ n % 64 + z .result + 9 = omega arith in
+    let laid : c .before .before .lay2 .last .0 ≡ paste (set (paste d 0 front (length front)) (n % 64) 0x80) (n % 64 + z .result + 1) (bits .result) (length (bits .result)) =
     rw (← c .before .before .before .before .before .before .before .lay .ensures) (c .before .before .lay2 .ensures) in
     rw (← z .ensures .0, ← bits .ensures, ← end, laid)
-    (ended (127 - length w) (z .result) w (bits .result) d (omega arith) (p .pre .2 ∙ ap (λ (k : ℕ). replicate k 0) e))
+    (ended (n % 64) (127 - n % 64) (z .result) front (bits .result) d w (omega (arith, z .ensures .1)) (p .pre .2 ∙ ap (λ (k : ℕ). replicate k 0) e))
 
 pub lay-end-spec : {M : Type 1} → statement M
 lay-end-spec =
@@ -74,9 +83,10 @@ lay-end-spec =
     add-bits-at-2
     mul-bytes-of-count
     bytes-of-count-requires
+    slice-aggregate-lay
     lay-requires
     slice-write-tail
-    slice-aggregate-lay
+    slice-aggregate-lay-2
     lay-requires-2
     same-length
     returns)

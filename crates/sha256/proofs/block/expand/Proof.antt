@@ -1,8 +1,8 @@
--- `expanded` is the sum that makes a word of the schedule from four before it.
-use Rattle.sha256.specs.Standard.{expand}
+-- `expand` is the sum that makes a word of the schedule from four before it.
+use Rattle.sha256.specs.Standard.{expandOf}
 use borrow.Author.Needs.{needs}
-use Rattle.sha256.proofs.block.expanded.Statement.{statement}
-use Rattle.sha256.proofs.block.expanded.Tie as tie
+use Rattle.sha256.proofs.block.expand.Statement.{statement}
+use Rattle.sha256.proofs.block.expand.Tie as tie
 
 small-sigma-1-requires : tie.Need-small-sigma-1-requires
 small-sigma-1-requires c κs = search needs
@@ -20,11 +20,11 @@ plus-requires-3 : tie.Need-plus-requires-3
 plus-requires-3 c κs = search needs
 
 returns : tie.Need-returns
-unfolding expand
+unfolding expandOf
 returns c = cc
 
-pub expanded-spec : {M : Type 1} → statement M
-expanded-spec =
+pub expand-spec : {M : Type 1} → statement M
+expand-spec =
     tie.close
     (tie.spec
     small-sigma-1-requires
