@@ -1,6 +1,6 @@
 -- Laws of a stream: what each step makes of the message that was absorbed, as the functions of `src/stream.rt` go.
-use mathlib.Core.Path.{_≡_, refl, sym, ap, _∙_}
 use mathlib.Core.List.{List, _++_, append-assoc}
+use mathlib.Core.Path.{_≡_, refl, sym, ap, _∙_}
 use Prim.Native.Nat.{ℕ, zero, suc, _+_, _-_, _*_, _/_, _%_, _≤_, _<_}
 use native.Mathlib.Omega.{arith}
 use lib.ListN.{length, take, drop, length-append, length-drop, drop-of-length-le, take-append-drop}

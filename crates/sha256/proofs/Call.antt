@@ -6,9 +6,9 @@ use borrow.Author.Tests.{le-leb, lt-leb}
 use lib.ListN.{length, replicate}
 use Rattle.refusals.proofs.Chain.{means-fixes}
 use Rattle.refusals.specs.Buffer.{CHOICES}
-use Rattle.refusals.specs.declared.Checked.{Checked}
 use Rattle.refusals.specs.Number.{SHAPE}
 use Rattle.refusals.specs.Told.{Told, refused, fine, means}
+use Rattle.refusals.specs.declared.Checked.{Checked}
 use Rattle.sha256.specs.Call.{LONGEST, Hashes, toldOf, shownOf}
 use Rattle.sha256.specs.Standard.{digestOf}
 use Rattle.sha256.specs.declared.Hashed.{Hashed}

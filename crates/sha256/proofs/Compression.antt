@@ -1,14 +1,14 @@
 -- Laws of the schedule and of the turns, as the loops of `src/block.rt` go through them.
-use mathlib.Core.Path.{_≡_, ap₂, _∙_}
 use mathlib.Core.List.{List, [], _∷_, _++_}
+use mathlib.Core.Path.{_≡_, ap₂, _∙_}
 use Prim.Native.Nat.{ℕ, _+_, _-_, _*_, _≤_, _<_}
-use native.Mathlib.Omega.{arith}
 use native.Mathlib.Numerals.{add-one}
+use native.Mathlib.Omega.{arith}
 use borrow.Author.Tests.{lt-ltb, le-ltb}
 use lib.ListN.{length, getD, take, set}
 use lib.Seq.{take-suc-set, getD-take}
-use Rattle.sha256.specs.declared.block.Words.{Words}
 use Rattle.sha256.specs.Standard.{K, W, wordOf, wordAt, expandOf, turnsOf, turnOf}
+use Rattle.sha256.specs.declared.block.Words.{Words}
 
 -- one word more of the schedule is stored
 pub W-more : (block w : List ℕ) (t v : ℕ) → t < length w → take t w ≡ W block t → v ≡ wordOf block t (W block t) → take (t + 1) (set w t v) ≡ W block (t + 1)

@@ -1,8 +1,11 @@
 -- The definitions of `specs/` on the standard's examples, by computation.
-use mathlib.Core.Path.{_≡_, refl}
 use mathlib.Core.List.{List, [], _∷_}
+use mathlib.Core.Path.{_≡_, refl}
 use Prim.Native.Nat.{ℕ}
+use lib.ListN.{length}
+use Rattle.refusals.specs.Told.{done, refused}
 use Rattle.sha256.proofs.Padding.{zeroBits}
+use Rattle.sha256.specs.Call.{toldOf}
 use Rattle.sha256.specs.Standard.{H0, K, T1, T2, W, _⊞_, Ch, Maj, ROTR, blockAt, blockCount, bytes, bytesOf, bytesOfWords, compressOf, digestOf, expandOf, hashValue, pad, padding, sumOf, turnOf, turnsOf, wordAt, wordOf, zeros, Σ0, Σ1, σ0, σ1}
 
 -- §5.1.1: the message "abc", of 24 bits, is padded with the bit 1 and then 448 - (24 + 1) = 423 zeros
@@ -30,3 +33,12 @@ digests :
     (digestOf twoBlocks ≡ bytesOfWords (0x248d6a61 ∷ 0xd20638b8 ∷ 0xe5c02693 ∷ 0x0c3e6039 ∷ 0xa33ce459 ∷ 0x64ff2167 ∷ 0xf6ecedd4 ∷ 0x19db06c1 ∷ []))
 unfolding H0 K T1 T2 W _⊞_ Ch Maj ROTR blockAt blockCount bytes bytesOf bytesOfWords compressOf digestOf expandOf hashValue pad padding sumOf turnOf turnsOf wordAt wordOf zeros Σ0 Σ1 σ0 σ1 abc twoBlocks
 digests = (refl, refl, refl)
+
+-- the hash call takes 65,535 bytes, and refuses one more
+longest-taken : (m : List ℕ) → length m ≡ 65535 → toldOf m ≡ done []
+unfolding toldOf
+longest-taken m e = rw e
+
+one-more-refused : (m : List ℕ) → length m ≡ 65536 → toldOf m ≡ refused 5 4 0
+unfolding toldOf
+one-more-refused m e = rw e

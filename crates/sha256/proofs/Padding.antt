@@ -1,6 +1,6 @@
 -- The padding of §5.1.1 is what the standard asks for, and the number of blocks that it makes.
-use mathlib.Core.Path.{_≡_, refl, ap}
 use mathlib.Core.List.{List}
+use mathlib.Core.Path.{_≡_, refl, ap}
 use Prim.Native.Nat.{ℕ, zero, suc, _+_, _*_, _/_, _%_, _≤_}
 use native.Mathlib.Omega.{arith}
 use lib.ListN.{length, length-append, length-replicate}

@@ -1,6 +1,6 @@
 -- What a stream has to do with the message that it has absorbed.
-use mathlib.Core.Path.{_≡_}
 use mathlib.Core.List.{List, _++_}
+use mathlib.Core.Path.{_≡_}
 use Prim.Native.Nat.{ℕ, _+_, _*_, _/_, _%_}
 use lib.ListN.{length, take, drop}
 use Rattle.sha256.specs.Standard.{hashValue}

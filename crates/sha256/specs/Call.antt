@@ -1,6 +1,6 @@
 -- The hash call: what it tells, and the digest beside that.
-use mathlib.Core.Path.{_≡_}
 use mathlib.Core.List.{List}
+use mathlib.Core.Path.{_≡_}
 use Prim.Native.Nat.{ℕ}
 use lib.Dec.{leb}
 use lib.ListN.{length, replicate}

@@ -5,10 +5,10 @@ use refusals::number::SHAPE;
 ghost use Rattle.sha256.specs.Call.{Hashes};
 
 pub mod block;
-pub mod bytes;
-pub mod constants;
+mod bytes;
+mod constants;
 pub mod stream;
-pub mod word;
+mod word;
 
 // The most bytes that the hash call takes.
 pub const LONGEST: usize = 65535;

@@ -1,10 +1,10 @@
 -- `hash` refuses by the length alone; else it is a stream that absorbs the message and is finished.
-use mathlib.Core.Path.{_∙_}
 use mathlib.Core.List.{[]}
+use mathlib.Core.Path.{_∙_}
 use native.Mathlib.Omega.{arith}
+use borrow.Author.Needs.{needs}
 use denote.Ref.{now}
 use Rattle.sha256.proofs.Call.{told-fine, told-long}
-use borrow.Author.Needs.{needs}
 use Rattle.sha256.proofs.hash.Statement.{statement}
 use Rattle.sha256.proofs.hash.Tie as tie
 

@@ -1,8 +1,8 @@
 -- `in_pieces` is the hash call itself where it is refused or not cut, and else has the digest by `pieces`.
 use native.Mathlib.Omega.{arith}
+use borrow.Author.Needs.{needs}
 use denote.Ref.{now}
 use Rattle.sha256.proofs.Call.{told-fine}
-use borrow.Author.Needs.{needs}
 use Rattle.sha256_pieces.proofs.in_pieces.Statement.{statement}
 use Rattle.sha256_pieces.proofs.in_pieces.Tie as tie
 

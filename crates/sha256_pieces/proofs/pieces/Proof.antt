@@ -1,13 +1,12 @@
 -- `pieces` has absorbed the first i bytes of the message after each turn, and all of them at the end.
-use borrow.Author.Needs.{needs}
-use mathlib.Core.Path.{_≡_}
 use mathlib.Core.List.{_++_}
+use mathlib.Core.Path.{_≡_}
 use Prim.Native.Nat.{_+_, _-_, _≤_}
 use native.Mathlib.Omega.{arith}
-use lib.ListN.{length, take, drop}
+use borrow.Author.Needs.{needs}
 use denote.Ref.{now}
+use lib.ListN.{length, take, drop, take-append-drop}
 use lib.Seq.{take-add}
-use lib.ListN.{take-append-drop}
 use Rattle.sha256.proofs.Absorbing.{rest-of}
 use Rattle.sha256.specs.Absorbed.{Absorbed}
 use Rattle.sha256_pieces.proofs.pieces.Statement.{statement}

@@ -1,6 +1,6 @@
 -- `print_digest` reads the 32 bytes in turn.
-use borrow.Author.Needs.{needs}
 use Prim.Native.Nat.{_-_, _≤_}
+use borrow.Author.Needs.{needs}
 use Rattle.sha256_vectors.proofs.print_digest.Statement.{statement}
 use Rattle.sha256_vectors.proofs.print_digest.Tie as tie
 

@@ -1,9 +1,9 @@
 -- `print_equal` lends the first n bytes of an array that has as many.
 use mathlib.Core.Path.{sym}
 use native.Mathlib.Omega.{arith}
-use lib.Seq.{length-take-le}
-use lib.ListN.{replicate}
 use borrow.Author.Needs.{needs}
+use lib.ListN.{replicate}
+use lib.Seq.{length-take-le}
 use Rattle.sha256_vectors.proofs.print_equal.Statement.{statement}
 use Rattle.sha256_vectors.proofs.print_equal.Tie as tie
 

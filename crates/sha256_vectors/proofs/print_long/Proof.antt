@@ -1,7 +1,7 @@
 -- `print_long` lends the whole room, which keeps its length, for lengths that it has: a multiple of 64 below 65,536 has another byte after it.
-use borrow.Author.Needs.{needs}
 use mathlib.Core.Path.{_≡_}
 use Prim.Native.Nat.{_-_, _%_, _≤_}
+use borrow.Author.Needs.{needs}
 use lib.ListN.{length}
 use Rattle.sha256_vectors.proofs.print_long.Statement.{statement}
 use Rattle.sha256_vectors.proofs.print_long.Tie as tie

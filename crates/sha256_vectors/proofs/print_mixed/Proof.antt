@@ -1,10 +1,10 @@
 -- `print_mixed` writes and lends the first n bytes of the room, which keeps its length.
-use lib.Seq.{length-take-le}
-use borrow.Author.Needs.{needs}
 use mathlib.Core.Path.{_≡_, sym}
 use Prim.Native.Nat.{_-_, _≤_}
 use native.Mathlib.Omega.{arith}
+use borrow.Author.Needs.{needs}
 use lib.ListN.{length}
+use lib.Seq.{length-take-le}
 use Rattle.sha256_vectors.proofs.print_mixed.Statement.{statement}
 use Rattle.sha256_vectors.proofs.print_mixed.Tie as tie
 

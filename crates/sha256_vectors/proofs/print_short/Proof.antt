@@ -1,7 +1,7 @@
 -- `print_short` lends the whole room, which keeps its length, for lengths that it has.
-use borrow.Author.Needs.{needs}
 use mathlib.Core.Path.{_≡_}
 use Prim.Native.Nat.{_-_, _≤_}
+use borrow.Author.Needs.{needs}
 use lib.ListN.{length}
 use Rattle.sha256_vectors.proofs.print_short.Statement.{statement}
 use Rattle.sha256_vectors.proofs.print_short.Tie as tie

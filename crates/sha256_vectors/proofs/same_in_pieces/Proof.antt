@@ -1,10 +1,10 @@
 -- `same_in_pieces` divides by at least 2, and counts the pieces up to a bound.
-use native.Mathlib.Nat.{div-le-self}
-use borrow.Author.Needs.{needs}
 use Prim.Native.Nat.{_-_, _≤_}
+use native.Mathlib.Nat.{div-le-self}
 use native.Mathlib.Omega.{arith}
-use lib.ListN.{length}
+use borrow.Author.Needs.{needs}
 use denote.Ref.{now}
+use lib.ListN.{length}
 use Rattle.sha256_vectors.proofs.same_in_pieces.Statement.{statement}
 use Rattle.sha256_vectors.proofs.same_in_pieces.Tie as tie
 

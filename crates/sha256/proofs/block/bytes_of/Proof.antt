@@ -1,13 +1,13 @@
 -- `bytes_of` lays each word's bytes after those of the words before it: after i words the first 4 i bytes are those words'.
-use borrow.Author.Needs.{needs}
-use mathlib.Core.Path.{_≡_, refl, sym, _∙_}
 use mathlib.Core.List.{[], _∷_}
+use mathlib.Core.Path.{_≡_, refl, sym, _∙_}
 use Prim.Native.Nat.{_-_, _*_, _≤_}
 use native.Mathlib.Omega.{arith}
+use borrow.Author.Needs.{needs}
 use lib.ListN.{length, take}
-use Rattle.sha256.specs.Standard.{bytesOf, bytesOfWords}
-use Rattle.sha256.proofs.Laid.{words-more}
 use lib.Seq.{take-all}
+use Rattle.sha256.proofs.Laid.{words-more}
+use Rattle.sha256.specs.Standard.{bytesOf, bytesOfWords}
 use Rattle.sha256.proofs.block.bytes_of.Statement.{statement}
 use Rattle.sha256.proofs.block.bytes_of.Tie as tie
 

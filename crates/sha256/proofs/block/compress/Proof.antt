@@ -1,6 +1,6 @@
 -- `compress` is steps 1 to 4 of §6.2.2 by its callees, and the eight sums of step 4.
-use Rattle.sha256.specs.Standard.{compressOf, sumOf}
 use borrow.Author.Needs.{needs}
+use Rattle.sha256.specs.Standard.{compressOf, sumOf}
 use Rattle.sha256.proofs.block.compress.Statement.{statement}
 use Rattle.sha256.proofs.block.compress.Tie as tie
 

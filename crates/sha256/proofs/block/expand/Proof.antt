@@ -1,6 +1,6 @@
 -- `expand` is the sum that makes a word of the schedule from four before it.
-use Rattle.sha256.specs.Standard.{expandOf}
 use borrow.Author.Needs.{needs}
+use Rattle.sha256.specs.Standard.{expandOf}
 use Rattle.sha256.proofs.block.expand.Statement.{statement}
 use Rattle.sha256.proofs.block.expand.Tie as tie
 

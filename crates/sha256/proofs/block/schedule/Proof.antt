@@ -1,14 +1,13 @@
 -- `schedule` is the schedule of the block: its first t words are those of the definition, through both loops.
-use borrow.Author.Needs.{needs}
 use mathlib.Core.Path.{_≡_, refl, sym, ap, _∙_}
 use Prim.Native.Nat.{_-_, _≤_}
 use native.Mathlib.Omega.{arith}
-use lib.ListN.{length, take}
+use borrow.Author.Needs.{needs}
 use denote.Ref.{now}
+use lib.ListN.{length, take, length-set}
+use lib.Seq.{take-all}
 use Rattle.sha256.proofs.Compression.{W-more, word-low, word-high}
 use Rattle.sha256.specs.Standard.{W, wordOf}
-use lib.Seq.{take-all}
-use lib.ListN.{length-set}
 use Rattle.sha256.proofs.block.schedule.Statement.{statement}
 use Rattle.sha256.proofs.block.schedule.Tie as tie
 

@@ -1,6 +1,6 @@
 -- `turn` is one turn of §6.2.2: the callees give T1 and T2, and the other words move on by a place.
-use Rattle.sha256.specs.Standard.{turnOf, T1, T2}
 use borrow.Author.Needs.{needs}
+use Rattle.sha256.specs.Standard.{turnOf, T1, T2}
 use Rattle.sha256.proofs.block.turn.Statement.{statement}
 use Rattle.sha256.proofs.block.turn.Tie as tie
 

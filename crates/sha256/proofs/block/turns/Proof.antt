@@ -1,8 +1,8 @@
 -- `turns` is the 64 turns: after t of them, where t is a multiple of 4, the working variables are those of the definition.
-use borrow.Author.Needs.{needs}
 use mathlib.Core.Path.{_≡_, refl}
 use Prim.Native.Nat.{_+_, _-_, _%_, _≤_, _<_}
 use native.Mathlib.Omega.{arith}
+use borrow.Author.Needs.{needs}
 use denote.Ref.{now}
 use Rattle.sha256.proofs.Compression.{turns-more}
 use Rattle.sha256.specs.Standard.{turnsOf, K}

@@ -1,7 +1,7 @@
 -- `bytes_of_count` gives the eight bytes of a number; the lowest needs no shift, as x / 1 is x.
-use Rattle.sha256.specs.Standard.{bytes}
 use native.Mathlib.Nat.{div-one}
 use borrow.Author.Needs.{needs}
+use Rattle.sha256.specs.Standard.{bytes}
 use Rattle.sha256.proofs.bytes.bytes_of_count.Statement.{statement}
 use Rattle.sha256.proofs.bytes.bytes_of_count.Tie as tie
 

@@ -2,8 +2,8 @@
 use mathlib.Core.Path.{refl}
 use Prim.Native.Nat.{_+_}
 use native.Mathlib.Omega.{arith}
-use Rattle.sha256.specs.Standard.{wordAt}
 use borrow.Author.Needs.{needs}
+use Rattle.sha256.specs.Standard.{wordAt}
 use Rattle.sha256.proofs.bytes.word_at.Statement.{statement}
 use Rattle.sha256.proofs.bytes.word_at.Tie as tie
 

@@ -1,15 +1,13 @@
 -- `absorb` cuts the part where the block that waits ends, and the pieces are the part.
+use mathlib.Core.List.{_++_, append-assoc}
 use mathlib.Core.Path.{_≡_, sym}
-use mathlib.Core.List.{_++_}
 use Prim.Native.Nat.{_+_, _-_, _%_}
 use native.Mathlib.Omega.{arith}
-use lib.ListN.{length, take, drop}
-use denote.Ref.{now}
-use Rattle.sha256.proofs.Absorbing.{rest-of}
-use lib.ListN.{length-drop, take-append-drop}
-use lib.Seq.{length-take-le}
-use mathlib.Core.List.{append-assoc}
 use borrow.Author.Needs.{needs}
+use denote.Ref.{now}
+use lib.ListN.{length, take, drop, length-drop, take-append-drop}
+use lib.Seq.{length-take-le}
+use Rattle.sha256.proofs.Absorbing.{rest-of}
 use Rattle.sha256.proofs.stream.absorb.Statement.{statement}
 use Rattle.sha256.proofs.stream.absorb.Tie as tie
 

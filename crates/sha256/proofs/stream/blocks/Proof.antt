@@ -1,16 +1,14 @@
 -- `blocks` goes on from the hash value of whole blocks: after i bytes, a multiple of 64, it has that of the message and those.
-use borrow.Author.Needs.{needs}
+use mathlib.Core.List.{List, _++_, append-nil, append-assoc}
 use mathlib.Core.Path.{_≡_}
-use mathlib.Core.List.{List, _++_}
 use Prim.Native.Nat.{ℕ, _+_, _-_, _%_, _≤_}
 use native.Mathlib.Omega.{arith}
-use lib.ListN.{length, take, drop}
+use borrow.Author.Needs.{needs}
 use denote.Ref.{now}
+use lib.ListN.{length, take, drop, length-drop}
+use lib.Seq.{take-add, take-length, length-take-le}
 use Rattle.sha256.proofs.Absorbing.{chained-more}
 use Rattle.sha256.specs.Absorbed.{Chained}
-use lib.ListN.{length-drop}
-use lib.Seq.{take-add, take-length, length-take-le}
-use mathlib.Core.List.{append-nil, append-assoc}
 use Rattle.sha256.proofs.stream.blocks.Statement.{statement}
 use Rattle.sha256.proofs.stream.blocks.Tie as tie
 

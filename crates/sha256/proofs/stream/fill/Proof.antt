@@ -1,13 +1,13 @@
 -- `fill` lays the part after the bytes that wait, which makes the next block of the message, and compresses that.
-use mathlib.Core.Path.{_≡_, refl}
 use mathlib.Core.List.{_++_}
+use mathlib.Core.Path.{_≡_, refl}
 use Prim.Native.Nat.{_+_, _%_}
 use native.Mathlib.Omega.{arith}
-use lib.ListN.{length, take}
+use borrow.Author.Needs.{needs}
 use denote.Ref.{now}
+use lib.ListN.{length, take}
 use Rattle.sha256.proofs.Absorbing.{filled}
 use Rattle.sha256.proofs.Laid.{laid}
-use borrow.Author.Needs.{needs}
 use Rattle.sha256.proofs.stream.fill.Statement.{statement}
 use Rattle.sha256.proofs.stream.fill.Tie as tie
 

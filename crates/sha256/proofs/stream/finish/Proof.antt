@@ -1,13 +1,13 @@
 -- `finish` goes on from the hash value of the whole blocks, over the bytes that wait and the padding: together the padded message.
-use mathlib.Core.Path.{_≡_, sym, ap, _∙_}
 use mathlib.Core.List.{List, _++_}
+use mathlib.Core.Path.{_≡_, sym, ap, _∙_}
 use Prim.Native.Nat.{ℕ, _+_, _%_}
 use native.Mathlib.Omega.{arith}
+use borrow.Author.Needs.{needs}
 use lib.ListN.{length, take}
+use lib.Seq.{length-take-le}
 use Rattle.sha256.proofs.Absorbing.{chained, rejoined, wholeOf, digested}
 use Rattle.sha256.specs.Standard.{padding}
-use lib.Seq.{length-take-le}
-use borrow.Author.Needs.{needs}
 use Rattle.sha256.proofs.stream.finish.Statement.{statement}
 use Rattle.sha256.proofs.stream.finish.Tie as tie
 

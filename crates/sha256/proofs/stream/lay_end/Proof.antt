@@ -1,14 +1,14 @@
 -- `lay_end` lays the bytes that wait, the mark and the count of bits into zeros; the zeros left between are those of the padding.
+use mathlib.Core.List.{List, _∷_, _++_}
 use mathlib.Core.Path.{_≡_, sym, ap, _∙_}
 use Prim.Native.Nat.{ℕ, suc, _+_, _-_, _%_}
 use native.Mathlib.Omega.{arith}
-use lib.ListN.{length, take}
+use borrow.Author.Needs.{needs}
 use denote.Ref.{now}
+use lib.ListN.{length, take, length-set, replicate, set}
+use lib.Seq.{length-take-le, paste}
 use Rattle.sha256.proofs.Laid.{ended}
 use Rattle.sha256.specs.Standard.{padding}
-use lib.ListN.{length-set, replicate, set}
-use lib.Seq.{length-take-le, paste}
-use borrow.Author.Needs.{needs}
 use Rattle.sha256.proofs.stream.lay_end.Statement.{statement}
 use Rattle.sha256.proofs.stream.lay_end.Tie as tie
 
@@ -71,8 +71,9 @@ returns c = let p = c .before .before .before .before .before .before .before .b
     let end : n % 64 + z .result + 1 + length (bits .result) ≡ n % 64 + z .result + 9 = omega arith in
     let laid : c .before .before .lay2 .last .0 ≡ paste (set (paste d 0 front (length front)) (n % 64) 0x80) (n % 64 + z .result + 1) (bits .result) (length (bits .result)) =
     rw (← c .before .before .before .before .before .before .before .lay .ensures) (c .before .before .lay2 .ensures) in
-    rw (← z .ensures .0, ← bits .ensures, ← end, laid)
-    (ended (n % 64) (127 - n % 64) (z .result) front (bits .result) d w (omega (arith, z .ensures .1)) (p .pre .2 ∙ ap (λ (k : ℕ). replicate k 0) e))
+    rw (← z .ensures .0, ← end, laid)
+    (ended (n % 64) (127 - n % 64) (z .result) front (bits .result) d w (omega (arith, z .ensures .1)) (p .pre .2 ∙ ap (λ (k : ℕ). replicate k 0) e)
+    ∙ ap (λ (l : List ℕ). front ++ (0x80 ∷ (replicate (z .result) 0 ++ l))) (bits .ensures))
 
 pub lay-end-spec : {M : Type 1} → statement M
 lay-end-spec =

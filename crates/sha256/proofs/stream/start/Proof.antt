@@ -1,7 +1,7 @@
 -- `start` has absorbed nothing: no byte, no block, and so the initial hash value.
 use mathlib.Core.Path.{refl}
-use Rattle.sha256.specs.Standard.{hashValue}
 use borrow.Author.Needs.{needs}
+use Rattle.sha256.specs.Standard.{hashValue}
 use Rattle.sha256.proofs.stream.start.Statement.{statement}
 use Rattle.sha256.proofs.stream.start.Tie as tie
 

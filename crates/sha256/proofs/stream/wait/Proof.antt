@@ -1,13 +1,13 @@
 -- `wait` lays the part after the bytes that wait; no block ends, so that the hash value stays.
-use mathlib.Core.Path.{_≡_, refl}
 use mathlib.Core.List.{_++_}
+use mathlib.Core.Path.{_≡_, refl}
 use Prim.Native.Nat.{_+_, _%_}
 use native.Mathlib.Omega.{arith}
-use lib.ListN.{length, take}
+use borrow.Author.Needs.{needs}
 use denote.Ref.{now}
+use lib.ListN.{length, take}
 use Rattle.sha256.proofs.Absorbing.{waited}
 use Rattle.sha256.proofs.Laid.{laid}
-use borrow.Author.Needs.{needs}
 use Rattle.sha256.proofs.stream.wait.Statement.{statement}
 use Rattle.sha256.proofs.stream.wait.Tie as tie
 

@@ -1,15 +1,13 @@
 -- `whole` has nothing waiting, so that the part's whole blocks go on from the hash value, and what is left of the part waits.
+use mathlib.Core.List.{_++_, append-assoc}
 use mathlib.Core.Path.{_≡_, sym}
-use mathlib.Core.List.{_++_}
 use Prim.Native.Nat.{_+_, _-_, _%_}
 use native.Mathlib.Omega.{arith}
-use lib.ListN.{length, take, drop}
-use denote.Ref.{now}
-use Rattle.sha256.proofs.Absorbing.{rest-of, none-waits, absorbed}
-use lib.ListN.{length-drop, take-append-drop, length-append}
-use lib.Seq.{length-take-le}
-use mathlib.Core.List.{append-assoc}
 use borrow.Author.Needs.{needs}
+use denote.Ref.{now}
+use lib.ListN.{length, take, drop, length-drop, take-append-drop, length-append}
+use lib.Seq.{length-take-le}
+use Rattle.sha256.proofs.Absorbing.{rest-of, none-waits, absorbed}
 use Rattle.sha256.proofs.stream.whole.Statement.{statement}
 use Rattle.sha256.proofs.stream.whole.Tie as tie
 

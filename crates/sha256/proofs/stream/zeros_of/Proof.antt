@@ -1,8 +1,8 @@
 -- `zeros_of` computes the definition; its bounds are arithmetic modulo 64.
 use mathlib.Core.Path.{refl}
 use native.Mathlib.Omega.{arith}
-use Rattle.sha256.specs.Standard.{zeros}
 use borrow.Author.Needs.{needs}
+use Rattle.sha256.specs.Standard.{zeros}
 use Rattle.sha256.proofs.stream.zeros_of.Statement.{statement}
 use Rattle.sha256.proofs.stream.zeros_of.Tie as tie
 

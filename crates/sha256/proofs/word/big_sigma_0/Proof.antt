@@ -1,6 +1,6 @@
 -- `big_sigma_0` is §4.1.2's Σ0: its three rotations are the standard's.
-use Rattle.sha256.specs.Standard.{Σ0}
 use borrow.Author.Needs.{needs}
+use Rattle.sha256.specs.Standard.{Σ0}
 use Rattle.sha256.proofs.word.big_sigma_0.Statement.{statement}
 use Rattle.sha256.proofs.word.big_sigma_0.Tie as tie
 

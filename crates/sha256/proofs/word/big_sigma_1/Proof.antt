@@ -1,6 +1,6 @@
 -- `big_sigma_1` is §4.1.2's Σ1: its three rotations are the standard's.
-use Rattle.sha256.specs.Standard.{Σ1}
 use borrow.Author.Needs.{needs}
+use Rattle.sha256.specs.Standard.{Σ1}
 use Rattle.sha256.proofs.word.big_sigma_1.Statement.{statement}
 use Rattle.sha256.proofs.word.big_sigma_1.Tie as tie
 

@@ -1,6 +1,6 @@
 -- `plus` is the addition of §3.2: the kit's wrapping sum is the sum modulo 2 ^ 32.
-use Rattle.sha256.specs.Standard.{_⊞_}
 use borrow.Author.Needs.{needs}
+use Rattle.sha256.specs.Standard.{_⊞_}
 use Rattle.sha256.proofs.word.plus.Statement.{statement}
 use Rattle.sha256.proofs.word.plus.Tie as tie
 

@@ -1,7 +1,7 @@
 -- `rotr` is §3.2's rotation: the two shifts are its quotient and its product modulo 2 ^ 32.
 use mathlib.Core.Path.{refl}
-use Rattle.sha256.specs.Standard.{ROTR}
 use borrow.Author.Needs.{needs}
+use Rattle.sha256.specs.Standard.{ROTR}
 use Rattle.sha256.proofs.word.rotr.Statement.{statement}
 use Rattle.sha256.proofs.word.rotr.Tie as tie
 

@@ -1,6 +1,6 @@
 -- `small_sigma_0` is §4.1.2's σ0: its two rotations and its shift are the standard's.
-use Rattle.sha256.specs.Standard.{σ0}
 use borrow.Author.Needs.{needs}
+use Rattle.sha256.specs.Standard.{σ0}
 use Rattle.sha256.proofs.word.small_sigma_0.Statement.{statement}
 use Rattle.sha256.proofs.word.small_sigma_0.Tie as tie
 

@@ -1,6 +1,6 @@
 -- `small_sigma_1` is §4.1.2's σ1: its two rotations and its shift are the standard's.
-use Rattle.sha256.specs.Standard.{σ1}
 use borrow.Author.Needs.{needs}
+use Rattle.sha256.specs.Standard.{σ1}
 use Rattle.sha256.proofs.word.small_sigma_1.Statement.{statement}
 use Rattle.sha256.proofs.word.small_sigma_1.Tie as tie
 
