@@ -19,12 +19,14 @@ fn rotr(n: u32, x: u32) -> u32
     (x >> n) | (x << (32 - n))
 }
 
+// Ch, by an operation fewer than the standard writes it with: z's bits, and y's where x has 1.
 pub fn ch(x: u32, y: u32, z: u32) -> u32
     ensures { λ r. ⌜ r ≡ Ch x y z ⌝ }
 {
-    (x & y) ^ (!x & z)
+    z ^ (x & (y ^ z))
 }
 
+// Maj
 pub fn maj(x: u32, y: u32, z: u32) -> u32
     ensures { λ r. ⌜ r ≡ Maj x y z ⌝ }
 {

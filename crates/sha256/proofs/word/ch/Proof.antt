@@ -1,12 +1,11 @@
--- `ch` is §4.1.2's Ch, operation by operation.
-use mathlib.Core.Path.{refl}
-use Rattle.sha256.specs.Standard.{Ch}
+-- `ch` is §4.1.2's Ch for words: bit by bit, z changed where x has 1 and y differs from it is the choice of y or z by x.
+use native.Mathlib.Omega.{arith}
+use Rattle.sha256.proofs.Choice.{ch-shorter}
 use Rattle.sha256.proofs.word.ch.Statement.{statement}
 use Rattle.sha256.proofs.word.ch.Tie as tie
 
 returns : tie.Need-returns
-unfolding Ch
-returns c = refl
+returns c = ch-shorter (c .args .x) (c .args .y) (c .args .z) (omega arith) (omega arith)
 
 pub ch-spec : {M : Type 1} → statement M
 ch-spec = tie.close (tie.spec returns)
