@@ -3,14 +3,14 @@ use mathlib.Core.Path.{_≡_, refl, sym, ap, ap₂, _∙_, subst}
 use mathlib.Core.Bool.{Bool, true, false, cond, _&&_, false≢true}
 use mathlib.Core.List.{List, [], _∷_, _++_, append-assoc}
 use Prim.Native.Nat.{ℕ, zero, suc, _+_, _-_, _*_, _≤_, _<_}
-use native.Mathlib.Nat.{not-suc-le-zero, le-refl, le-trans, le-of-eq, suc-mul, mul-le-mul-right}
+use native.Mathlib.Nat.{not-suc-le-zero, le-refl, le-trans, le-of-eq, zero-mul, suc-mul, mul-le-mul-right}
 use native.Mathlib.Numerals.{add-one}
 use native.Mathlib.Decide.{ℕ-discrete}
 use native.Mathlib.Omega.{arith}
 use lib.ListN.{length, getD, take, drop, set, length-append, length-take, length-drop, length-set, take-append-drop, List·getD-append}
 use borrow.Rule.Slice.PartMut.{putMid, midOf}
-use lib.Seq.{take-at, drop-at, drop-cons, drop-drop, drop-append-le, set-at, append-snoc, getD-at, ext-getD}
-use Rattle.algebra.specs.Lists.{tab, allBelow, firstFrom, stretch, over, overAt}
+use lib.Seq.{take-all, take-append-le, take-at, drop-at, drop-cons, drop-drop, drop-append-le, set-at, append-snoc, getD-at, ext-getD}
+use Rattle.algebra.specs.Lists.{tab, allBelow, firstFrom, stretch, joined, over, overAt}
 
 -- two lists of n are equal by their entries
 pub same-list : (n : ℕ) (s t : List ℕ) → length s ≡ n → length t ≡ n → ((j : ℕ) → j < n → getD s j 0 ≡ getD t j 0) → s ≡ t
@@ -129,6 +129,37 @@ from-stretch size k from s e = ap (λ (z : ℕ). take (z + size - z) (drop z s))
 pub stretch-fits : (size k m : ℕ) → k < m → k * size + size ≤ m * size
 stretch-fits size k m h = le-trans (le-of-eq (sym (suc-mul k size))) (mul-le-mul-right size h)
 
+-- ---- stretches one after the other
+
+pub length-joined : (size n : ℕ) (f : ℕ → List ℕ) → ((k : ℕ) → k < n → length (f k) ≡ size) → length (joined n f) ≡ n * size
+unfolding joined
+length-joined size zero f even = sym (zero-mul size)
+length-joined size (suc n) f even =
+    let a = length-joined size n f (λ k l. even k (omega arith)) in
+    let b = even n (le-refl (suc n)) in
+    simp length-append (omega (arith, suc-mul n size))
+
+-- the stretch k is f k
+pub stretch-joined : (size n : ℕ) (f : ℕ → List ℕ) → ((k : ℕ) → k < n → length (f k) ≡ size) → (k : ℕ) → k < n → stretch size k (joined n f) ≡ f k
+unfolding joined stretch
+stretch-joined size zero f even k h = absurd (not-suc-le-zero h)
+stretch-joined size (suc n) f even k h = step (ℕ-discrete k n) (λ l. stretch-joined size n f (λ k l. even k (omega arith)) k l)
+  where
+    a : length (joined n f) ≡ n * size
+    a = length-joined size n f (λ k l. even k (omega arith))
+
+    step : Dec (k ≡ n) → (k < n → take size (drop (k * size) (joined n f)) ≡ f k) → take size (drop (k * size) (joined n f ++ f n)) ≡ f k
+    step (yes e) ih =
+        ap (λ (z : ℕ). take size (drop (z * size) (joined n f ++ f n))) e
+        ∙ ap (take size) (drop-at (joined n f) (f n) (n * size) a)
+        ∙ take-all size (f n) (let b = even n (le-refl (suc n)) in omega arith) ∙ ap f (sym e)
+    step (no q) ih =
+        let l : k < n = omega arith in
+        let b = stretch-fits size k n l in
+        let d : size ≤ length (drop (k * size) (joined n f)) = simp length-drop (omega (arith, a)) in
+        ap (take size) (drop-append-le (k * size) (joined n f) (f n) (omega (arith, a)))
+        ∙ take-append-le size (drop (k * size) (joined n f)) (f n) d ∙ ih l
+
 -- ---- outputs
 
 -- what a callee wrote over the front of a room y, lent on as the room's first n
@@ -191,3 +222,22 @@ tabulated-more f d out j x t l e =
 -- after the last turn the table is a list
 pub tabulated-all : (f : ℕ → ℕ) (d out : List ℕ) (j n : ℕ) (l : List ℕ) → Tabulated f d out j → j ≡ n → tab n f ≡ l → out ≡ over l d
 tabulated-all f d out j n l t e q = t .now ∙ ap (λ (z : List ℕ). over z d) (ap (λ (k : ℕ). tab k f) e ∙ q)
+
+-- ---- a loop that writes stretches over the front of d: what out is after k turns
+
+pub record Joining (f : ℕ → List ℕ) (d out : List ℕ) (k : ℕ) : Type 0 where
+  pub size : length out ≡ length d
+  pub now : out ≡ over (joined k f) d
+
+pub joining-none : (f : ℕ → List ℕ) (d : List ℕ) → Joining f d d 0
+unfolding over joined
+joining-none f d = record { size = refl; now = refl }
+
+pub joining-more : (size : ℕ) (f : ℕ → List ℕ) (d out after : List ℕ) (k : ℕ) → ((j : ℕ) → j < k → length (f j) ≡ size) → Joining f d out k
+    → length after ≡ length out → after ≡ overAt (f k) (k * size) out → Joining f d after (k + 1)
+unfolding joined
+joining-more size f d out after k even t l e =
+    record {
+      size = l ∙ t .size;
+      now = e ∙ ap (overAt (f k) (k * size)) (t .now) ∙ over-behind (joined k f) (f k) d (k * size) (length-joined size k f even) ∙ rw add-one;
+    }

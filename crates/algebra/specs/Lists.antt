@@ -34,6 +34,11 @@ count x (y ∷ ys) = cond (eqb x y) 1 0 + count x ys
 unfoldable pub stretch : ℕ → ℕ → List ℕ → List ℕ
 stretch size k l = take size (drop (k * size) l)
 
+-- f 0, f 1, .., f (n - 1), one after the other
+unfoldable pub joined : ℕ → (ℕ → List ℕ) → List ℕ
+joined zero f = []
+joined (suc n) f = joined n f ++ f n
+
 -- what an output d holds once l is written over its front: l, and then the rest of d as it was
 unfoldable pub over : List ℕ → List ℕ → List ℕ
 over l d = l ++ drop (length l) d

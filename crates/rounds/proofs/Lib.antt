@@ -1,0 +1,3 @@
+-- The laws of N rounds.
+pub mod Runs
+pub mod Cuts

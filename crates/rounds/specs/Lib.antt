@@ -1,0 +1,3 @@
+-- N rounds side by side.
+pub mod Layout
+pub mod Rounds
