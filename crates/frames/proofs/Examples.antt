@@ -1,18 +1,19 @@
 -- Examples by computation: a frame of each kind, and each refusal that the kind can give.
 use mathlib.Core.Path.{_≡_, refl}
-use mathlib.Core.Bool.{true, false}
+use mathlib.Core.Bool.{true, false, not}
 use mathlib.Core.List.{List, [], _∷_, _++_}
 use Prim.Native.Nat.{ℕ}
+use lib.Dec.{eqb}
 use lib.ListN.{replicate}
 use Rattle.refusals.specs.Number.{SHORT, LONG, VERSION, KIND, SHAPE, VALUE, PERM, ROOM}
 use Rattle.refusals.specs.Buffer.{NONE, SYSTEM, PUBLIC, SECRET, CHOICES, COMMITMENTS, CHALLENGES, ANSWERS, BITS, OPENINGS, OUTPUT}
 use Rattle.refusals.specs.Told.{Told, done, refused, fine, firstBelow}
-use Rattle.algebra.specs.Lists.{allBelow, count, stretch}
+use Rattle.algebra.specs.Lists.{tab, sumBelow, allBelow, count, stretch}
 use Rattle.algebra.specs.Permutations.{isPerm}
 use Rattle.frames.specs.declared.kind.Kind.{Kind}
 use Rattle.frames.specs.declared.kind.Kind.the-variants.{System, Public, Secret, Commitments, Challenges, Answers, Bits, Openings}
 use Rattle.frames.specs.Kinds.{limits, alone}
-use Rattle.frames.specs.PackedBits.{bitAt, unusedClear}
+use Rattle.frames.specs.PackedBits.{bitAt, unusedClear, byteOf, pack}
 use Rattle.frames.specs.Reading.{header, shape, values, permutations, reading, openingCheck, openingOf}
 use Rattle.frames.specs.Writing.{frame, plainCheck, writing}
 use Rattle.frames.specs.Choosing.{vectorOf, permutationOf, choiceCheck, choicesCheck}
@@ -87,8 +88,9 @@ bits : (read Bits (0 ∷ 5 ∷ 1 ∷ 7 ∷ 9 ∷ 191 ∷ 128 ∷ []) ≡ done (9
     × (bitAt (191 ∷ 128 ∷ []) 0 ≡ true)
     × (bitAt (191 ∷ 128 ∷ []) 1 ≡ false)
     × (bitAt (191 ∷ 128 ∷ []) 8 ≡ true)
-unfolding reading header shape unusedClear bitAt allBelow
-bits = (refl, refl, refl, refl, refl, refl)
+    × (pack 9 (λ (k : ℕ). not (eqb k 1)) ≡ 191 ∷ 128 ∷ [])
+unfolding reading header shape unusedClear bitAt allBelow pack byteOf tab sumBelow
+bits = (refl, refl, refl, refl, refl, refl, refl)
 
 abbrev two-openings : List ℕ
 two-openings = 0 ∷ 10 ∷ 1 ∷ 8 ∷ 3 ∷ 2 ∷ 2 ∷ 0 ∷ 1 ∷ 0 ∷ 1 ∷ 2 ∷ []
