@@ -15,7 +15,7 @@ use Rattle.sha256.specs.Standard.{digestOf}
 use Rattle.sha256.proofs.Digest.{digest-length}
 use Rattle.round.specs.Round.{System, Pair, pair, standInCommitted, standInAnswer, standIn}
 use Rattle.round.proofs.Laws.{length-under}
-use Rattle.stand_in.specs.Standing.{bytesOf}
+use Rattle.stand_in.specs.Standing.{roundSize, bytesOf}
 
 -- W has n residues
 answer-length : (p n : ℕ) (v : List ℕ) (c : ℕ) (bit : Bool) (y : Pair) → length (y .vector) ≡ n → IsPerm n (y .permutation) → length (standInAnswer p v c bit y) ≡ n
@@ -46,3 +46,13 @@ module _ (s : System) (v : List ℕ) (c : ℕ) (bit : Bool) (y : Pair) (n : ℕ)
       ∙ ap (overAt (y .permutation) (32 + n)) (b ∙ ap (overAt w 32) a ∙ over-behind d w out 32 k)
       ∙ over-behind (d ++ w) (y .permutation) out (32 + n) m
       ∙ ap (λ (x : List ℕ). over ((x ++ w) ++ y .permutation) out) q
+
+  pub round-size : length (bytesOf (standIn s v c bit y)) ≡ roundSize n
+  unfolding bytesOf standIn
+  round-size =
+      let d = digestOf (standInCommitted s v c bit y) in
+      let w = standInAnswer (s .p) v c bit y in
+      let k = digest-length (standInCommitted s v c bit y) in
+      let l = answer-length (s .p) n v c bit y e h in
+      let m = h .len in
+      omega (arith, length-append (d ++ w) (y .permutation), length-append d w)
