@@ -25,11 +25,12 @@ from frame_cases import FRAME_CALLS
 from hash_cases import HASH_CALLS
 from making import Given
 from signon import Refused
+from stand_in_cases import STAND_IN_CALLS
 
 REPLAY = Path(__file__).resolve().parents[2] / "crates" / "replay"
 SHOWN_WHOLE = 40
 
-CALLS = [*FRAME_CALLS, *HASH_CALLS]
+CALLS = [*FRAME_CALLS, *HASH_CALLS, *STAND_IN_CALLS]
 """The number of a call in a case is its place here, from 1."""
 
 

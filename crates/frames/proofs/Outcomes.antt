@@ -44,10 +44,13 @@ unfolding writer refusal
 writer-means (Wrote n) = refl
 writer-means (NotWritten r) = refl
 
+pub written-fixes : (a b : Written) → writtenMeans a ≡ writtenMeans b → a ≡ b
+written-fixes a b e = sym (writer-means a) ∙ ap writer e ∙ writer-means b
+
 pub one-writing : (k : Kind) (a b : ℕ) (plain out : List ℕ) (r q : Written) (x y : List ℕ)
     → Writes k a b plain out r x → Writes k a b plain out q y → (r ≡ q) × (x ≡ y)
 one-writing k a b plain out r q x y p s =
-    let e : r ≡ q = sym (writer-means r) ∙ ap writer (p .says ∙ sym (s .says)) ∙ writer-means q in
+    let e : r ≡ q = written-fixes r q (p .says ∙ sym (s .says)) in
     (e, p .writes ∙ ap (λ (t : Written). outAfter t (frame k a b plain) out) e ∙ sym (s .writes))
 
 pub refused-writes-nothing : (k : Kind) (a b : ℕ) (plain out : List ℕ) (r : Refusal) (after : List ℕ)

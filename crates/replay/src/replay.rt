@@ -31,6 +31,7 @@ use frames::write::write_secret_key;
 use frames::write::write_system;
 use libc::STDOUT_FILENO;
 use sha256::hash;
+use stand_in::stand_in;
 ghost use Rattle.io.specs.Counts.{Counts};
 
 // Copies a buffer that is lent for writing into the room, and answers its length; a case has none that is longer than the room.
@@ -87,6 +88,20 @@ fn replay_hash(message: &[u8]) {
     tell_bytes(&hashed.digest);
 }
 
+fn replay_stand_in(case: &[u8], out: &mut [u8]) {
+    let c = number_of(case, 0);
+    let bit = number_of(case, 1);
+    tell_written(stand_in(
+        c,
+        bit,
+        buffer_of(case, 0),
+        buffer_of(case, 1),
+        buffer_of(case, 2),
+        out,
+    ));
+    tell_bytes(out);
+}
+
 fn replay_call(call: u8, case: &[u8], room: &mut [u8]) {
     match call {
         1..=8 => tell_read(read(call, buffer_of(case, 0))),
@@ -96,6 +111,10 @@ fn replay_call(call: u8, case: &[u8], room: &mut [u8]) {
         }
         17 => replay_opening(buffer_of(case, 0), number_of(case, 0)),
         18 => replay_hash(buffer_of(case, 0)),
+        19 => {
+            let lent = lay(buffer_of(case, 3), room);
+            replay_stand_in(case, &mut room[..lent]);
+        }
         _ => {}
     }
 }

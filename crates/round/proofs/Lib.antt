@@ -1,4 +1,5 @@
--- The laws of a round, and the pairing.
+-- The laws of a round, the pairing, and examples.
 pub mod Laws
 pub mod Pairing
 pub mod Rooms
+pub mod Examples

@@ -1,0 +1,110 @@
+-- What a check that refuses nothing says of the bytes lent, as plain facts.
+use mathlib.Core.Path.{_≡_, refl, sym, ap, _∙_, subst}
+use mathlib.Core.List.{List}
+use Prim.Native.Nat.{ℕ, _+_, _-_, _≤_, _<_}
+use native.Mathlib.Omega.{arith}
+use borrow.Author.Tests.{ltb-true}
+use lib.Dec.{eqb, ltb}
+use lib.ListN.{length, take, drop}
+use lib.Seq.{length-take-le}
+use Rattle.refusals.specs.Number.{SHAPE}
+use Rattle.refusals.specs.Buffer.{NONE}
+use Rattle.refusals.specs.Told.{Told, done, first, demand}
+use Rattle.refusals.proofs.Chain.{first-done}
+use Rattle.algebra.specs.Residues.{modulus}
+use Rattle.algebra.specs.Permutations.{IsPerm}
+use Rattle.algebra.specs.Matrices.{SystemFits}
+use Rattle.frames.specs.declared.kind.Kind.the-variants.{System, Public}
+use Rattle.frames.specs.declared.read.Read.{Read}
+use Rattle.frames.specs.declared.read.Read.the-variants.{Frame}
+use Rattle.frames.specs.Kinds.{alone}
+use Rattle.frames.specs.Reading.{firstOf, secondOf, restOf, reading, readMeans, Reads}
+use Rattle.frames.specs.Choosing.{vectorOf, permutationOf, choicesCheck}
+use Rattle.frames.proofs.Facts.{test-holds, rest-done, first-within, second-within, Shaped, rest-length, reading-told}
+use Rattle.frames.proofs.Orders.{rest-part}
+use Rattle.round.specs.Round.{systemOf, pair, WellFormed, standIn}
+use Rattle.stand_in.specs.Standing.{ofPlaces, lentCheck, standInOf}
+use Rattle.stand_in.proofs.Choices.{one-choice-told}
+
+pub system-shaped : (s : List ℕ) (r : Read) (x y z : ℕ) → Reads System alone s r → r ≡ Frame x y z → Shaped System alone s
+system-shaped s r x y z m e = reading-told System alone s _ (sym (m .says) ∙ ap readMeans e) .0 .form
+
+pub system-fits : (s : List ℕ) → Shaped System alone s → SystemFits (restOf System s) (firstOf s) (secondOf System s)
+system-fits s h =
+    let p = first-within System alone (firstOf s) (secondOf System s) (h .numbers) in
+    let q = second-within System alone (firstOf s) (secondOf System s) (h .numbers) in
+    record { some = omega arith; less = omega arith; most = omega arith; entries = rest-length System alone s h }
+
+-- a key of n places
+key-fits : (n : ℕ) (s : List ℕ) → Shaped Public (ofPlaces n) s → length (restOf Public s) ≡ n
+key-fits n s h =
+    let p = first-within Public (ofPlaces n) (firstOf s) (secondOf Public s) (h .numbers) in
+    let e : firstOf s ≡ n = omega arith in
+    rest-length Public (ofPlaces n) s h ∙ e
+
+pub record LentFits (c bit : ℕ) (system key lent : List ℕ) : Type 0 where
+  pub challenge : c < modulus
+  pub oneBit : bit < 2
+  pub systemThere : 6 ≤ length system
+  pub systemFits : SystemFits (restOf System system) (firstOf system) (secondOf System system)
+  pub keyThere : 5 ≤ length key
+  pub keyFits : length (restOf Public key) ≡ firstOf system
+  pub size : length lent ≡ firstOf system + firstOf system
+  pub well : WellFormed (systemOf (restOf System system) (firstOf system) (secondOf System system)) (pair (vectorOf (firstOf system) lent) (permutationOf (firstOf system) lent))
+
+pub lent-told : (c bit : ℕ) (system key lent v : List ℕ) → lentCheck c bit system key lent ≡ done v → LentFits c bit system key lent
+unfolding lentCheck vectorOf
+lent-told c bit system key lent v e =
+    let n = firstOf system in
+    let t1 = ltb c modulus in
+    let t2 = ltb bit 2 in
+    let r5 : Told = choicesCheck n 1 lent in
+    let r4 : Told = first (reading Public (ofPlaces n) key) r5 in
+    let r3 : Told = first (reading System alone system) r4 in
+    let r2 : Told = first (demand t2 SHAPE NONE 0) r3 in
+    let e2 = rest-done t1 SHAPE NONE 0 r2 v e in
+    let a = first-done (reading System alone system) r4 v (rest-done t2 SHAPE NONE 0 r3 v e2) in
+    let b = first-done (reading Public (ofPlaces n) key) r5 v (a .1) in
+    let s = reading-told System alone system (a .0 .0) (a .0 .1) .0 .form in
+    let k = reading-told Public (ofPlaces n) key (b .0 .0) (b .0 .1) .0 .form in
+    let x = one-choice-told n lent v (b .1) in
+    let z = x .0 in
+    record {
+      challenge = ltb-true _ _ (test-holds t1 SHAPE NONE 0 r2 v e);
+      oneBit = ltb-true _ _ (test-holds t2 SHAPE NONE 0 r3 v e2);
+      systemThere = s .there;
+      systemFits = system-fits system s;
+      keyThere = k .there;
+      keyFits = key-fits n key k;
+      size = x .0;
+      well = record { size = length-take-le n lent (omega arith); residues = x .1 .residues; perm = x .1 .perm };
+    }
+
+-- ---- the values lent, as the code cuts them
+
+abbrev from : ℕ → List ℕ → List ℕ
+from start s = take (length s - start) (drop start s)
+
+module _ (c bit : ℕ) (system key lent : List ℕ) (h : LentFits c bit system key lent) (n m : ℕ) (p : n ≡ firstOf system) (q : m ≡ secondOf System system) where
+  tail : from n lent ≡ permutationOf n lent
+  unfolding permutationOf
+  tail = let z = h .size in let e : length lent - n ≡ n = omega arith in ap (λ (k : ℕ). take k (drop n lent)) e
+
+  pub parts-fit : SystemFits (from 6 system) n m
+      × (length (from 5 key) ≡ n)
+      × (length (take n lent) ≡ n)
+      × IsPerm (length (from n lent)) (from n lent)
+      × (length (from n lent) ≡ n)
+  parts-fit =
+      let z = h .size in
+      let t : IsPerm n (from n lent) = rw (tail, p) (h .well .perm) in (
+        rw (rest-part System system 6 refl, p, q) (h .systemFits),
+        rw (rest-part Public key 5 refl, p) (h .keyFits),
+        length-take-le n lent (omega arith),
+        subst (λ (k : ℕ). IsPerm k (from n lent)) (sym (t .len)) t,
+        t .len,
+      )
+
+  pub parts-stand-in : standIn (systemOf (from 6 system) n m) (from 5 key) c (eqb bit 1) (pair (take n lent) (from n lent)) ≡ standInOf c bit system key lent
+  unfolding standInOf vectorOf
+  parts-stand-in = rw (rest-part System system 6 refl, rest-part Public key 5 refl, tail, p, q)

@@ -1,0 +1,7 @@
+-- The laws of the stand-in's call, and examples.
+pub mod Choices
+pub mod Orders
+pub mod Facts
+pub mod Laid
+pub mod Outcomes
+pub mod Examples

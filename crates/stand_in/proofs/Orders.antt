@@ -1,0 +1,62 @@
+-- Laws of the order of refusals, an answer each, as the code finds them.
+use mathlib.Core.Path.{_≡_, sym, ap, _∙_}
+use mathlib.Core.List.{List, [], _∷_}
+use Prim.Native.Nat.{ℕ, _≤_, _<_}
+use native.Mathlib.Omega.{arith}
+use borrow.Author.Tests.{lt-ltb, le-ltb, lt-leb, le-leb}
+use lib.Dec.{leb}
+use Rattle.refusals.specs.declared.Refusal.{Refusal}
+use Rattle.refusals.specs.Number.{SHAPE, ROOM}
+use Rattle.refusals.specs.Buffer.{NONE, OUTPUT}
+use Rattle.refusals.specs.Told.{Told, done, refused, told, first, demand}
+use Rattle.algebra.specs.Residues.{modulus}
+use Rattle.frames.specs.declared.kind.Kind.the-variants.{System, Public}
+use Rattle.frames.specs.declared.read.Read.{Read}
+use Rattle.frames.specs.declared.read.Read.the-variants.{Frame, Refused}
+use Rattle.frames.specs.Kinds.{alone}
+use Rattle.frames.specs.Reading.{firstOf, readMeans, Reads}
+use Rattle.frames.specs.Choosing.{choicesCheck}
+use Rattle.stand_in.specs.Standing.{ofPlaces, lentCheck, roundSize}
+
+-- ---- links of a chain that are frames: `r` is a reader's answer and `a` what it has to mean
+
+frame-passes : {r : Read} {a b c : Told} {x y z : ℕ} → readMeans r ≡ a → r ≡ Frame x y z → c ≡ b → c ≡ first a b
+frame-passes {b = b} m e n = n ∙ ap (λ (t : Told). first t b) (sym (ap readMeans e) ∙ m)
+
+frame-stops : (b : Told) {r : Read} {a : Told} {x : Refusal} → readMeans r ≡ a → r ≡ Refused x → told x ≡ first a b
+frame-stops b m e = ap (λ (t : Told). first t b) (sym (ap readMeans e) ∙ m)
+
+-- ---- what is lent
+
+module _ (c bit : ℕ) (system key lent : List ℕ) where
+  pub bad-challenge : modulus ≤ c → refused SHAPE NONE 0 ≡ lentCheck c bit system key lent
+  unfolding lentCheck
+  bad-challenge h = rw (le-ltb c modulus h)
+
+  module _ (h : c < modulus) where
+    pub bad-bit : 2 ≤ bit → refused SHAPE NONE 0 ≡ lentCheck c bit system key lent
+    unfolding lentCheck
+    bad-bit l = rw (lt-ltb c modulus h, le-ltb bit 2 l)
+
+    module _ (l : bit < 2) (r : Read) (m : Reads System alone system r) where
+      pub bad-system : (x : Refusal) → r ≡ Refused x → told x ≡ lentCheck c bit system key lent
+      unfolding lentCheck
+      bad-system x e = rw (lt-ltb c modulus h, lt-ltb bit 2 l) (frame-stops _ (m .says) e)
+
+      module _ (x y z : ℕ) (e : r ≡ Frame x y z) (q : Read) (k : Reads Public (ofPlaces (firstOf system)) key q) where
+        pub bad-key : (x : Refusal) → q ≡ Refused x → told x ≡ lentCheck c bit system key lent
+        unfolding lentCheck
+        bad-key x f = rw (lt-ltb c modulus h, lt-ltb bit 2 l) (frame-passes (m .says) e (frame-stops _ (k .says) f))
+
+        pub choices-decide : (x y z : ℕ) → q ≡ Frame x y z → (t : Told) → t ≡ choicesCheck (firstOf system) 1 lent → t ≡ lentCheck c bit system key lent
+        unfolding lentCheck
+        choices-decide x y z f t d = rw (lt-ltb c modulus h, lt-ltb bit 2 l) (frame-passes (m .says) e (frame-passes (k .says) f d))
+
+-- ---- ROOM; `need` is what the code works out
+
+module _ (n need room : ℕ) (e : need ≡ roundSize n) where
+  pub no-room : room < need → refused ROOM OUTPUT need ≡ first (demand (leb (roundSize n) room) ROOM OUTPUT (roundSize n)) (done (roundSize n ∷ []))
+  no-room l = let m : room < roundSize n = omega arith in rw (lt-leb (roundSize n) room m, e)
+
+  pub room-enough : need ≤ room → done (need ∷ []) ≡ first (demand (leb (roundSize n) room) ROOM OUTPUT (roundSize n)) (done (roundSize n ∷ []))
+  room-enough l = let m : roundSize n ≤ room = omega arith in rw (le-leb (roundSize n) room m, e)

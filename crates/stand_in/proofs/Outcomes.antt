@@ -1,0 +1,66 @@
+-- No second outcome fits what the stand-in's call promises, a refused call changes nothing, and what an accepted call writes has the size told and
+-- passes.
+use mathlib.Core.Path.{_≡_, sym, ap, _∙_}
+use mathlib.Core.Bool.{true}
+use mathlib.Core.List.{List, [], _∷_}
+use Prim.Native.Nat.{ℕ, _≤_}
+use native.Mathlib.Omega.{arith}
+use lib.Dec.{eqb, leb}
+use lib.ListN.{length}
+use Rattle.refusals.specs.declared.Refusal.{Refusal}
+use Rattle.refusals.specs.Number.{ROOM}
+use Rattle.refusals.specs.Buffer.{OUTPUT}
+use Rattle.refusals.specs.Told.{Told, done, first, demand}
+use Rattle.refusals.proofs.Chain.{Passed, first-done}
+use Rattle.algebra.specs.Residues.{modulus}
+use Rattle.frames.specs.declared.kind.Kind.the-variants.{System, Public}
+use Rattle.frames.specs.declared.write.Written.{Written}
+use Rattle.frames.specs.declared.write.Written.the-variants.{Wrote, Refused}
+use Rattle.frames.specs.Reading.{firstOf, secondOf, restOf}
+use Rattle.frames.specs.Writing.{outAfter}
+use Rattle.frames.proofs.Outcomes.{written-fixes}
+use Rattle.round.specs.Round.{systemOf, passes}
+use Rattle.round.proofs.Laws.{stand-in-passes}
+use Rattle.stand_in.specs.Standing.{lentCheck, roundSize, standing, standInOf, bytesOf, StandsIn}
+use Rattle.stand_in.proofs.Facts.{LentFits, lent-told}
+use Rattle.stand_in.proofs.Laid.{round-size}
+
+module _ (c bit : ℕ) (system key lent out : List ℕ) where
+  pub one-stand-in : (r q : Written) (x y : List ℕ) → StandsIn c bit system key lent out r x → StandsIn c bit system key lent out q y → (r ≡ q) × (x ≡ y)
+  one-stand-in r q x y p s =
+      let e : r ≡ q = written-fixes r q (p .says ∙ sym (s .says)) in
+      (e, p .writes ∙ ap (λ (t : Written). outAfter t (bytesOf (standInOf c bit system key lent)) out) e ∙ sym (s .writes))
+
+  pub refused-changes-nothing : (r : Refusal) (after : List ℕ) → StandsIn c bit system key lent out (Refused r) after → after ≡ out
+  refused-changes-nothing r after p = p .writes
+
+  -- ---- an accepted call
+
+  module _ (bytes : ℕ) (after : List ℕ) (p : StandsIn c bit system key lent out (Wrote bytes) after) where
+    abbrev n : ℕ
+    n = firstOf system
+
+    abbrev room : Told
+    room = first (demand (leb (roundSize n) (length out)) ROOM OUTPUT (roundSize n)) (done (roundSize n ∷ []))
+
+    accepted : Passed (lentCheck c bit system key lent) × (room ≡ done (bytes ∷ []))
+    unfolding standing
+    accepted = first-done (lentCheck c bit system key lent) room (bytes ∷ []) (sym (p .says))
+
+    fits : LentFits c bit system key lent
+    fits = lent-told c bit system key lent (accepted .0 .0) (accepted .0 .1)
+
+    -- it tells how many bytes it has written
+    pub told-size : length (bytesOf (standInOf c bit system key lent)) ≡ bytes
+    unfolding standInOf
+    told-size =
+        let e = first-done (demand (leb (roundSize n) (length out)) ROOM OUTPUT (roundSize n)) (done (roundSize n ∷ [])) (bytes ∷ []) (accepted .1) .1 in
+        let z : roundSize n ≡ bytes = cc in
+        round-size (systemOf (restOf System system) n (secondOf System system)) (restOf Public key) c (eqb bit 1) _ n (fits .well .size) (fits .well .perm) ∙ z
+
+    -- the register passes the round that it has written
+    pub written-passes : passes (systemOf (restOf System system) (firstOf system) (secondOf System system)) (restOf Public key) c (eqb bit 1) (standInOf c bit system key lent) ≡ true
+    unfolding standInOf
+    written-passes =
+        let small : c ≤ modulus = omega (arith, fits .challenge) in
+        stand-in-passes (systemOf (restOf System system) (firstOf system) (secondOf System system)) (restOf Public key) c small (eqb bit 1) _ (fits .well)

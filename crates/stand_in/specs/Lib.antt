@@ -1,0 +1,2 @@
+-- The stand-in's call.
+pub mod Standing
