@@ -4,7 +4,7 @@ pub mod Orders
 pub mod Facts
 pub mod Writing
 pub mod OpeningLaws
-pub mod Bits
+pub mod PackedBits
 pub mod Spelling
 pub mod Outcomes
 pub mod Examples

@@ -28,7 +28,7 @@ use Rattle.frames.specs.Writing.{frame, frameSize, plainCheck, writing}
 use Rattle.frames.proofs.Orders.{headed, spare-decides}
 use Rattle.frames.proofs.Facts.{Headed, FrameFits, second-within, rest-length}
 use Rattle.frames.proofs.Writing.{Plain, plain-told}
-use Rattle.frames.proofs.Bits.{same-bits}
+use Rattle.frames.proofs.PackedBits.{same-bits}
 
 -- ---- one number or two
 
