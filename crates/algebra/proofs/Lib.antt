@@ -4,6 +4,7 @@ pub mod Sums
 pub mod Permutations
 pub mod Vectors
 pub mod Matrices
+pub mod Solving
 pub mod Primes
 pub mod Marks
 pub mod Drawings
