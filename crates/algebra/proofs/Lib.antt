@@ -8,4 +8,5 @@ pub mod Solving
 pub mod Primes
 pub mod Marks
 pub mod Drawings
+pub mod Fair
 pub mod Examples

@@ -1,0 +1,33 @@
+-- Laws of what each call draws, as the code that writes it needs them.
+use mathlib.Core.Path.{_≡_, refl, sym, ap, _∙_, subst}
+use mathlib.Core.List.{List, _++_}
+use Prim.Native.Nat.{ℕ, _+_, _-_, _≤_, _<_}
+use native.Mathlib.Omega.{arith}
+use lib.ListN.{length, take, drop, length-append}
+use lib.Seq.{take-at, drop-at}
+use Rattle.algebra.specs.Residues.{modulus, Residues}
+use Rattle.algebra.specs.Permutations.{IsPerm}
+use Rattle.algebra.specs.Drawings.{Drawing, drew, ranOut, drawPermutation, usedBy, drawnOver}
+use Rattle.algebra.proofs.Drawings.{Permutes, drawn-perm}
+use Rattle.frames.specs.Choosing.{choiceSize}
+use Rattle.frames.proofs.Passing.{Chosen}
+use Rattle.draw.specs.Sequences.{made, andThen, drawResidues}
+use Rattle.draw.specs.Making.{drawChoice}
+use Rattle.draw.proofs.Sequences.{Always, some-below}
+
+-- the choices of one round are R and then σ
+pub choice-chosen : (n : ℕ) (random : List ℕ) → 0 < n → (at : ℕ) → Always (λ (l : List ℕ). (length l ≡ choiceSize n) × Chosen n l) (drawChoice n random at)
+unfolding drawChoice
+choice-chosen n random pos at = step (drawResidues n random at) (some-below modulus random n at)
+  where
+    join : (r : List ℕ) (d : Drawing) → (length r ≡ n) × Residues modulus r → Permutes n d
+        → Always (λ (l : List ℕ). (length l ≡ choiceSize n) × Chosen n l) (made (λ (s : List ℕ). r ++ s) d)
+    join r (drew s q) (e, h) p =
+        let z = p .len in
+        (length-append r s ∙ omega arith, record { vector = r; permutation = s; both = refl; len = e; residues = h; perm = p })
+    join r ranOut h p = tt
+
+    step : (d : Drawing) → Always (λ (l : List ℕ). (length l ≡ n) × Residues modulus l) d
+        → Always (λ (l : List ℕ). (length l ≡ choiceSize n) × Chosen n l) (andThen d (drawPermutation n random))
+    step (drew r p) h = join r (drawPermutation n random p) h (drawn-perm n random p pos)
+    step ranOut h = tt

@@ -1,0 +1,59 @@
+use borrow.Author.Needs.{needs}
+use Rattle.draw.proofs.messages.write_bits_with.Statement.{statement}
+use Rattle.draw.proofs.messages.write_bits_with.Tie as tie
+use Rattle.draw.proofs.messages.write_bits_with.Reads as reads
+use Rattle.draw.proofs.messages.write_bits_with.Lts as lts
+use Rattle.draw.proofs.sequence.write_below.Reads as write-below-reads
+use Rattle.frames.proofs.bits.clear_unused.Reads as clear-unused-reads
+use Rattle.frames.proofs.kind.size_of.Reads as size-of-reads
+use Rattle.frames.proofs.write.put_frame.Reads as put-frame-reads
+
+-- src/messages.rt:108:9
+size-of-requires : tie.Need-size-of-requires
+size-of-requires c κs = search needs
+
+-- src/messages.rt:109:5
+write-below-requires : tie.Need-write-below-requires
+write-below-requires c κs = ?
+
+-- src/messages.rt:110:5
+clear-unused-requires : tie.Need-clear-unused-requires
+clear-unused-requires c κs = search needs
+
+-- src/messages.rt:111:38
+slice-reshare-prefix-put-frame : tie.Need-slice-reshare-prefix-put-frame
+slice-reshare-prefix-put-frame c = search needs
+
+-- src/messages.rt:111:38
+slice-aggregate-put-frame : tie.Need-slice-aggregate-put-frame
+slice-aggregate-put-frame c = ?
+
+-- src/messages.rt:111:5
+put-frame-requires : tie.Need-put-frame-requires
+put-frame-requires c κs = ?
+
+-- src/messages.rt:104:1
+same-length : tie.Need-same-length
+same-length c = search needs
+
+-- src/messages.rt:104:1
+same-length-2 : tie.Need-same-length-2
+same-length-2 c = search needs
+
+-- src/messages.rt:104:1
+returns : tie.Need-returns
+returns c = ?
+
+pub write-bits-with-spec : {M : Type 1} → statement M
+write-bits-with-spec =
+    tie.close
+    (tie.spec
+    size-of-requires
+    write-below-requires
+    clear-unused-requires
+    slice-reshare-prefix-put-frame
+    slice-aggregate-put-frame
+    put-frame-requires
+    same-length
+    same-length-2
+    returns)
