@@ -1,17 +1,18 @@
 -- Laws of the order of refusals: an answer each, as the code finds it.
-use mathlib.Core.Path.{_≡_, refl, sym, ap, subst}
+use mathlib.Core.Path.{_≡_, refl, sym, _∙_, subst}
 use mathlib.Core.Bool.{Bool, true, false}
 use mathlib.Core.List.{List}
 use Prim.Native.Nat.{ℕ, _≤_, _<_}
 use borrow.Author.Tests.{lt-leb, le-leb}
 use lib.ListN.{length}
+use Rattle.refusals.specs.declared.Refusal.{Refusal}
 use Rattle.refusals.specs.Number.{SHAPE, ROOM, DRAW}
 use Rattle.refusals.specs.Buffer.{NONE, RANDOM, OUTPUT}
-use Rattle.refusals.specs.Told.{Told, done, refused, fine}
+use Rattle.refusals.specs.Told.{Told, done, refused, told, fine}
 use Rattle.algebra.specs.declared.draw.Used.the-variants.{To, RanOut}
 use Rattle.algebra.specs.Drawings.{Drawing, usedBy, drawnOver}
 use Rattle.draw.specs.declared.Taken.{Taken}
-use Rattle.draw.specs.declared.Taken.the-variants.{Bytes}
+use Rattle.draw.specs.declared.Taken.the-variants.{Bytes, Refused}
 use Rattle.draw.specs.Telling.{refusal, bare, telling, Draws}
 
 -- bare numbers within their limits
@@ -29,6 +30,11 @@ module _ (need : ℕ) (drawing : Drawing) (random out : List ℕ) where
   unfolding telling
   bad-numbers test f e = refuses (bare test) e (rw f)
 
+  -- a frame that is refused
+  pub bad-frame : (numbers : Told) {r : Refusal} → told r ≡ numbers → Draws numbers need drawing random out (Refused r) out
+  unfolding telling
+  bad-frame numbers e = record { says = rw (← e); writes = refl }
+
   -- numbers and frames that refuse nothing
   module _ (numbers : Told) (values : List ℕ) (p : numbers ≡ done values) where
     pub no-room : {answer : Taken} → length out < need → answer ≡ refusal ROOM OUTPUT need → Draws numbers need drawing random out answer out
@@ -44,3 +50,8 @@ module _ (need : ℕ) (drawing : Drawing) (random out : List ℕ) where
         → Draws numbers need drawing random out (Bytes used) after
     unfolding telling
     takes l u w = record { says = rw (p, le-leb need (length out) l, ← u); writes = w }
+
+    -- what was found past the frame
+    pub past-frame : {answer : Taken} {after : List ℕ} → Draws fine need drawing random out answer after → Draws numbers need drawing random out answer after
+    unfolding telling
+    past-frame d = record { says = d .says ∙ rw p; writes = d .writes }

@@ -107,7 +107,7 @@ fn form_key(a: &[u8], n: usize, m: usize, random: &[u8], pi: &mut [u8], x: &mut 
 
 // Writes the two frames of a key, for which there is room.
 fn put_key(n: usize, v: &[u8], pi: &[u8], out: &mut [u8])
-    requires { ⌜ (n ≤ longest) × (length (now v) ≡ n) × (length (now pi) ≡ n) × (keySize n ≤ length (now out)) ⌝ }
+    requires { ⌜ (2 ≤ n) × (n ≤ longest) × (length (now v) ≡ n) × (length (now pi) ≡ n) × (keySize n ≤ length (now out)) ⌝ }
     ensures { λ _. ⌜ now (out .exit) ≡ over (frame Kind.Public n 0 (now (v .entry)) ++ frame Kind.Secret n 0 (now (pi .entry))) (now (out .entry)) ⌝ }
 {
     put_frame(Kind::Public, n, 0, v, out);

@@ -8,13 +8,13 @@ places-fit-requires : tie.Need-places-fit-requires
 places-fit-requires c κs = search needs
 
 returns : tie.Need-returns
-returns c = rw (← c .before .places-fit .ensures, not-true _ (c .if1 .taken))
+returns c = rw (← c .before .places-fit .ensures, not-true (c .before .places-fit .result) (c .if1 .taken))
 
 within-requires : tie.Need-within-requires
 within-requires c κs = search needs
 
 returns-2 : tie.Need-returns-2
-returns-2 c = rw (← c .before .before .places-fit .ensures, not-false _ (c .before .if1 .left)) (c .within .ensures)
+returns-2 c = rw (← c .before .before .places-fit .ensures, not-false (c .before .before .places-fit .result) (c .before .if1 .left)) (c .within .ensures)
 
 pub choices-fit-spec : {M : Type 1} → statement M
 choices-fit-spec = tie.close (tie.spec places-fit-requires returns within-requires returns-2)

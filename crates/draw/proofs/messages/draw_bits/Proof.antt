@@ -1,74 +1,94 @@
+-- `draw_bits` meets its contract: a law of the order for each answer.
+use mathlib.Core.Path.{sym, ap, _∙_}
+use mathlib.Core.List.{List, []}
+use Prim.Native.Nat.{ℕ}
+use native.Mathlib.Omega.{arith}
 use borrow.Author.Needs.{needs}
+use borrow.Author.Tests.{not-true, not-false}
+use Rattle.refusals.specs.Buffer.{OUTPUT}
+use Rattle.refusals.specs.Number.{ROOM}
+use Rattle.algebra.specs.Drawings.{usedBy}
+use Rattle.algebra.proofs.Drawings.{enough-of}
+use Rattle.frames.specs.Clearing.{packedSize, cleared}
+use Rattle.frames.specs.Kinds.{within, alone}
+use Rattle.frames.specs.Writing.{frame}
+use Rattle.draw.specs.Telling.{refusal}
+use Rattle.frames.proofs.Facts.{within-told}
+use Rattle.draw.specs.Making.{drawBits}
+use Rattle.draw.specs.Sequences.{someBelow}
+use Rattle.draw.proofs.Orders.{bad-numbers, no-room, good-numbers, runs-out, takes}
+use Rattle.draw.proofs.Sequences.{made-used}
+use Rattle.frames.specs.declared.kind.Kind.the-variants.{Bits}
 use Rattle.draw.proofs.messages.draw_bits.Statement.{statement}
 use Rattle.draw.proofs.messages.draw_bits.Tie as tie
-use Rattle.draw.proofs.messages.draw_bits.Reads as reads
-use Rattle.draw.proofs.messages.draw_bits.Lts as lts
-use Rattle.draw.proofs.frame_size.Reads as frame-size-reads
-use Rattle.draw.proofs.messages.write_bits.Reads as write-bits-reads
-use Rattle.draw.proofs.refuse.Reads as refuse-reads
-use Rattle.draw.proofs.rounds_fit.Reads as rounds-fit-reads
-use Rattle.draw.proofs.sequence.measure_below.Reads as measure-below-reads
-use Rattle.frames.proofs.kind.size_of.Reads as size-of-reads
 
--- src/messages.rt:78:9
 rounds-fit-requires : tie.Need-rounds-fit-requires
 rounds-fit-requires c κs = search needs
 
--- src/messages.rt:79:9
 refuse-requires : tie.Need-refuse-requires
 refuse-requires c κs = search needs
 
--- src/messages.rt:79:9
 returns : tie.Need-returns
-returns c = ?
+returns c =
+    let g = c .before .before .before .before .before .args in
+    bad-numbers _ _ _ _ (within (alone .rounds) (g .rounds)) (sym (c .before .before .rounds-fit .ensures) ∙ not-true _ (c .before .if1 .taken)) (c .refuse .ensures)
 
--- src/messages.rt:81:9
 frame-size-requires : tie.Need-frame-size-requires
-frame-size-requires c κs = ?
+frame-size-requires c κs =
+    let g = c .before .before .before .before .args in
+    within-told (alone .rounds) (g .rounds) (sym (c .before .rounds-fit .ensures) ∙ not-false _ (c .if1 .left)) .1
 
--- src/messages.rt:83:9
 refuse-requires-2 : tie.Need-refuse-requires-2
 refuse-requires-2 c κs = search needs
 
--- src/messages.rt:83:9
 returns-2 : tie.Need-returns-2
-returns-2 c = ?
+returns-2 c =
+    let g = c .before .before .before .before .before .before .before .args in
+    let s = c .before .before .frame-size .ensures .0 in
+    no-room _ _ _ _ _ [] (good-numbers (within (alone .rounds) (g .rounds)) (sym (c .before .before .before .before .rounds-fit .ensures) ∙ not-false _ (c .before .before .before .if1 .left))) (omega arith) (c .refuse2 .ensures ∙ ap (refusal ROOM OUTPUT) s)
 
--- src/messages.rt:85:32
 size-of-requires : tie.Need-size-of-requires
-size-of-requires c κs = ?
+size-of-requires c κs =
+    let g = c .before .before .before .before .before .before .args in
+    let w = within-told (alone .rounds) (g .rounds) (sym (c .before .before .before .rounds-fit .ensures) ∙ not-false _ (c .before .before .if1 .left)) in (omega arith, omega arith)
 
--- src/messages.rt:85:11
 measure-below-requires : tie.Need-measure-below-requires
 measure-below-requires c κs = search needs
 
--- src/messages.rt:86:46
 enum-told : tie.Need-enum-told
 enum-told c = search needs
 
--- src/messages.rt:86:25
 refuse-requires-3 : tie.Need-refuse-requires-3
 refuse-requires-3 c κs = search needs
 
--- src/messages.rt:87:18
 enum-known-used : tie.Need-enum-known-used
 enum-known-used c = search needs
 
--- src/messages.rt:88:13
 write-bits-requires : tie.Need-write-bits-requires
-write-bits-requires c κs = ?
+write-bits-requires c κs =
+    let g = c .before .before .before .before .before .before .before .before .before .before .before .before .args in
+    let w = within-told (alone .rounds) (g .rounds) (sym (c .before .before .before .before .before .before .before .before .before .rounds-fit .ensures) ∙ not-false _ (c .before .before .before .before .before .before .before .before .if1 .left)) in
+    let s = c .before .before .before .before .before .before .before .frame-size .ensures .0 in
+    (enough-of (someBelow 256 (packedSize (g .rounds)) (g .random .now) 0) _ (sym (c .before .before .used .given .1) ∙ c .before .before .before .before .measure-below .ensures ∙ ap (λ (k : ℕ). usedBy (someBelow 256 k (g .random .now) 0)) (c .before .before .before .before .before .size-of .ensures .0)), omega arith, omega arith, omega arith)
 
--- src/messages.rt:75:1
 returns-3 : tie.Need-returns-3
-returns-3 c = ?
+unfolding drawBits
+returns-3 c =
+    let g = c .before .before .before .before .before .before .before .before .before .before .before .args in
+    let s = c .before .before .before .before .before .before .frame-size .ensures .0 in
+    runs-out _ _ _ _ _ [] (good-numbers (within (alone .rounds) (g .rounds)) (sym (c .before .before .before .before .before .before .before .before .rounds-fit .ensures) ∙ not-false _ (c .before .before .before .before .before .before .before .if1 .left))) (omega arith)
+    (sym (c .before .enum-told .given .1) ∙ c .before .before .before .measure-below .ensures ∙ ap (λ (k : ℕ). usedBy (someBelow 256 k (g .random .now) 0)) (c .before .before .before .before .size-of .ensures .0) ∙ sym (made-used (λ (l : List ℕ). frame Bits (g .rounds) 0 (cleared (g .rounds) l)) (someBelow 256 (packedSize (g .rounds)) (g .random .now) 0))) (c .refuse3 .ensures)
 
--- src/messages.rt:75:1
 same-length : tie.Need-same-length
 same-length c = search needs
 
--- src/messages.rt:75:1
 returns-4 : tie.Need-returns-4
-returns-4 c = ?
+unfolding drawBits
+returns-4 c =
+    let g = c .before .before .before .before .before .before .before .before .before .before .before .before .before .before .before .args in
+    let s = c .before .before .before .before .before .before .before .before .before .before .frame-size .ensures .0 in
+    takes _ _ _ _ _ [] (good-numbers (within (alone .rounds) (g .rounds)) (sym (c .before .before .before .before .before .before .before .before .before .before .before .before .rounds-fit .ensures) ∙ not-false _ (c .before .before .before .before .before .before .before .before .before .before .before .if1 .left))) (omega arith)
+    (sym (c .before .before .before .before .before .used .given .1) ∙ c .before .before .before .before .before .before .before .measure-below .ensures ∙ ap (λ (k : ℕ). usedBy (someBelow 256 k (g .random .now) 0)) (c .before .before .before .before .before .before .before .before .size-of .ensures .0) ∙ sym (made-used (λ (l : List ℕ). frame Bits (g .rounds) 0 (cleared (g .rounds) l)) (someBelow 256 (packedSize (g .rounds)) (g .random .now) 0))) (c .before .before .write-bits .ensures)
 
 pub draw-bits-spec : {M : Type 1} → statement M
 draw-bits-spec =
