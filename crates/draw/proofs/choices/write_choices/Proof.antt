@@ -97,7 +97,7 @@ same-length c = c .before .loop .inv .2 .size
 
 returns : tie.Need-returns Inv-loop μ-loop
 unfolding drawChoices
-returns c = written-all _ _ _ _ _ _ (c .before .loop .inv .2) _ (omega arith) .1
+returns c = written-all _ _ _ _ _ _ (c .before .loop .inv .2) (c .before .before .before .before .args .rounds) (omega arith) .1
 
 pub write-choices-spec : {M : Type 1} → statement M
 write-choices-spec =

@@ -1,50 +1,77 @@
+-- `make_key` meets its contract: a system that is read fits, and its entries are the rest of its frame.
+use mathlib.Core.Path.{_≡_, sym, ap, _∙_}
+use mathlib.Core.List.{[], _∷_}
+use native.Mathlib.Omega.{arith}
 use borrow.Author.Needs.{needs}
+use Rattle.frames.specs.Kinds.{alone}
+use Rattle.frames.specs.Reading.{firstOf, secondOf, readMeans}
+use Rattle.frames.proofs.Facts.{reading-told}
+use Rattle.frames.proofs.Orders.{rest-part}
+use Rattle.draw.proofs.Orders.{bad-frame, past-frame}
+use Rattle.draw.proofs.Making.{system-fits}
+use Rattle.frames.specs.declared.kind.Kind.the-variants.{System}
 use Rattle.draw.proofs.key.make_key.Statement.{statement}
 use Rattle.draw.proofs.key.make_key.Tie as tie
-use Rattle.draw.proofs.key.make_key.Reads as reads
-use Rattle.draw.proofs.key.make_key.Lts as lts
-use Rattle.draw.proofs.key.draw_key.Reads as draw-key-reads
-use Rattle.frames.proofs.read.read_system.Reads as read-system-reads
 
--- src/key.rt:42:11
 read-system-requires : tie.Need-read-system-requires
 read-system-requires c κs = search needs
 
--- src/key.rt:43:23
 enum-known-x : tie.Need-enum-known-x
 enum-known-x c = search needs
 
--- src/key.rt:44:21
 enum-known-n : tie.Need-enum-known-n
 enum-known-n c = search needs
 
--- src/key.rt:44:46
 sub-draw-key : tie.Need-sub-draw-key
-sub-draw-key c = ?
+sub-draw-key c =
+    let s = c .before .before .before .before .before .before .before .args .system .now in
+    let r = c .before .before .before .read-system in
+    let n = c .before .n .given in
+    let q = reading-told System alone s (n .0 .0 ∷ n .0 .1 .0 ∷ n .0 .1 .1 .0 ∷ []) (sym (r .ensures .says) ∙ ap readMeans (n .1)) in
+    let e : n .0 .1 .1 .0 ≡ 6 = cc in
+    let h = q .0 .form .there in
+    omega arith
 
--- src/key.rt:44:46
 part-draw-key-start : tie.Need-part-draw-key-start
-part-draw-key-start c = ?
+part-draw-key-start c =
+    let s = c .before .before .before .before .before .before .before .args .system .now in
+    let r = c .before .before .before .read-system in
+    let n = c .before .n .given in
+    let q = reading-told System alone s (n .0 .0 ∷ n .0 .1 .0 ∷ n .0 .1 .1 .0 ∷ []) (sym (r .ensures .says) ∙ ap readMeans (n .1)) in
+    let e : n .0 .1 .1 .0 ≡ 6 = cc in
+    let h = q .0 .form .there in
+    omega arith
 
--- src/key.rt:44:46
 part-draw-key-end : tie.Need-part-draw-key-end
 part-draw-key-end c = search needs
 
--- src/key.rt:44:37
 draw-key-requires : tie.Need-draw-key-requires
-draw-key-requires c κs = ?
+draw-key-requires c κs =
+    let s = c .before .before .before .before .before .before .before .before .before .args .system .now in
+    let r = c .before .before .before .before .before .read-system in
+    let n = c .before .before .before .n .given in
+    let q = reading-told System alone s (n .0 .0 ∷ n .0 .1 .0 ∷ n .0 .1 .1 .0 ∷ []) (sym (r .ensures .says) ∙ ap readMeans (n .1)) in
+    let e : n .0 .1 .1 .0 ≡ 6 = cc in
+    let i : n .0 .0 ≡ firstOf s = cc in
+    let j : n .0 .1 .0 ≡ secondOf System s = cc in
+    rw (rest-part System s (n .0 .1 .1 .0) e, i, j) (system-fits s (q .0))
 
--- src/key.rt:39:1
 returns : tie.Need-returns
-returns c = ?
+returns c = bad-frame _ _ _ _ _ (sym (ap readMeans (c .before .x .given .1)) ∙ c .before .before .before .read-system .ensures .says)
 
--- src/key.rt:39:1
 same-length : tie.Need-same-length
 same-length c = search needs
 
--- src/key.rt:39:1
 returns-2 : tie.Need-returns-2
-returns-2 c = ?
+returns-2 c =
+    let s = c .before .before .before .before .before .before .before .before .before .before .before .before .args .system .now in
+    let r = c .before .before .before .before .before .before .before .before .read-system in
+    let n = c .before .before .before .before .before .before .n .given in
+    let q = reading-told System alone s (n .0 .0 ∷ n .0 .1 .0 ∷ n .0 .1 .1 .0 ∷ []) (sym (r .ensures .says) ∙ ap readMeans (n .1)) in
+    let e : n .0 .1 .1 .0 ≡ 6 = cc in
+    let i : n .0 .0 ≡ firstOf s = cc in
+    let j : n .0 .1 .0 ≡ secondOf System s = cc in
+    past-frame _ _ _ _ _ _ (sym (r .ensures .says) ∙ ap readMeans (n .1)) (rw (rest-part System s (n .0 .1 .1 .0) e, i, j) at (c .before .before .draw-key .ensures))
 
 pub make-key-spec : {M : Type 1} → statement M
 make-key-spec =
