@@ -11,16 +11,18 @@ use Rattle.algebra.specs.Residues.{modulus, Residues}
 use Rattle.algebra.specs.Permutations.{longest, IsPerm}
 use Rattle.algebra.specs.Matrices.{SystemFits}
 use Rattle.algebra.specs.Drawings.{Drawing, drew, ranOut, drawPermutation, usedBy, drawnOver}
+use Rattle.algebra.proofs.Lists.{&&-left, &&-right}
 use Rattle.algebra.proofs.Drawings.{Permutes, drawn-perm}
 use Rattle.algebra.proofs.Permutations.{length-permute, length-inverse}
 use Rattle.frames.specs.declared.kind.Kind.the-variants.{System, Public, Secret}
-use Rattle.frames.specs.Kinds.{alone, fits}
+use Rattle.frames.specs.Kinds.{limits, within, alone, fits}
 use Rattle.frames.specs.Reading.{firstOf, secondOf, restOf}
-use Rattle.frames.proofs.Facts.{FrameFits, first-within, second-within, rest-length}
+use Rattle.frames.proofs.Facts.{within-told, FrameFits, first-within, second-within, rest-length}
 use Rattle.frames.specs.Choosing.{choiceSize}
 use Rattle.frames.proofs.Passing.{Chosen}
 use Rattle.draw.specs.Sequences.{made, andThen, drawResidues}
 use Rattle.draw.specs.Making.{drawChoice, publicKey, drawPair}
+use Rattle.draw.specs.Telling.{choicesFit}
 use Rattle.draw.proofs.Sequences.{Always, some-below}
 
 -- the choices of one round are R and then σ
@@ -39,6 +41,12 @@ choice-chosen n random pos at = step (drawResidues n random at) (some-below modu
         → Always (λ (l : List ℕ). (length l ≡ choiceSize n) × Chosen n l) (andThen d (drawPermutation n random))
     step (drew r p) h = join r (drawPermutation n random p) h (drawn-perm n random p pos)
     step ranOut h = tt
+
+pub choices-fit-told : (greatest n N : ℕ) → choicesFit greatest n N ≡ true → ((2 ≤ n) × (n ≤ longest)) × ((1 ≤ N) × (N ≤ greatest))
+choices-fit-told greatest n N t = (
+  within-told (alone .places) n (&&-left (within (alone .places) n) (within (limits 1 greatest) N) t),
+  within-told (limits 1 greatest) N (&&-right (within (alone .places) n) (within (limits 1 greatest) N) t),
+)
 
 -- ---- a key
 

@@ -1,72 +1,83 @@
+-- `draw_choices_up_to` meets its contract: a law of the order for each answer.
+use mathlib.Core.Path.{sym, _∙_}
+use mathlib.Core.List.{[]}
+use native.Mathlib.Omega.{arith}
 use borrow.Author.Needs.{needs}
+use borrow.Author.Tests.{not-true, not-false}
+use Rattle.algebra.proofs.Drawings.{enough-of}
+use Rattle.algebra.proofs.Sums.{byte-mul}
+use Rattle.frames.specs.Choosing.{choiceSize}
+use Rattle.draw.specs.Telling.{choicesFit}
+use Rattle.draw.specs.Making.{drawChoices}
+use Rattle.draw.proofs.Orders.{bad-numbers, no-room, good-numbers, runs-out, takes}
+use Rattle.draw.proofs.Making.{choices-fit-told}
 use Rattle.draw.proofs.choices.draw_choices_up_to.Statement.{statement}
 use Rattle.draw.proofs.choices.draw_choices_up_to.Tie as tie
-use Rattle.draw.proofs.choices.draw_choices_up_to.Reads as reads
-use Rattle.draw.proofs.choices.draw_choices_up_to.Lts as lts
-use Rattle.draw.proofs.choices.choices_fit.Reads as choices-fit-reads
-use Rattle.draw.proofs.choices.measure_choices.Reads as measure-choices-reads
-use Rattle.draw.proofs.choices.write_choices.Reads as write-choices-reads
-use Rattle.draw.proofs.refuse.Reads as refuse-reads
 
--- src/choices.rt:107:9
 choices-fit-requires : tie.Need-choices-fit-requires
 choices-fit-requires c κs = search needs
 
--- src/choices.rt:108:9
 refuse-requires : tie.Need-refuse-requires
 refuse-requires c κs = search needs
 
--- src/choices.rt:108:9
 returns : tie.Need-returns
-returns c = ?
+returns c =
+    let g = c .before .before .before .before .before .args in
+    bad-numbers _ _ _ _ (choicesFit (g .greatest) (g .n) (g .rounds)) (sym (c .before .before .choices-fit .ensures) ∙ not-true _ (c .before .if1 .taken)) (c .refuse .ensures)
 
--- src/choices.rt:110:26
 add-need : tie.Need-add-need
-add-need c = ?
+add-need c =
+    let g = c .before .before .before .before .args in
+    let w = choices-fit-told (g .greatest) (g .n) (g .rounds) (sym (c .before .choices-fit .ensures) ∙ not-false _ (c .if1 .left)) in
+    omega arith
 
--- src/choices.rt:110:16
 mul-need : tie.Need-mul-need
-mul-need c = ?
+mul-need c =
+    let g = c .before .before .before .before .args in
+    let w = choices-fit-told (g .greatest) (g .n) (g .rounds) (sym (c .before .choices-fit .ensures) ∙ not-false _ (c .if1 .left)) in
+    omega (arith, byte-mul (g .rounds) (choiceSize (g .n)) (omega arith) (omega arith))
 
--- src/choices.rt:112:9
 refuse-requires-2 : tie.Need-refuse-requires-2
 refuse-requires-2 c κs = search needs
 
--- src/choices.rt:112:9
 returns-2 : tie.Need-returns-2
-returns-2 c = ?
+returns-2 c =
+    let g = c .before .before .before .before .before .before .args in
+    no-room _ _ _ _ _ [] (good-numbers (choicesFit (g .greatest) (g .n) (g .rounds)) (sym (c .before .before .before .choices-fit .ensures) ∙ not-false _ (c .before .before .if1 .left))) (c .before .if2 .taken) (c .refuse2 .ensures)
 
--- src/choices.rt:114:11
 measure-choices-requires : tie.Need-measure-choices-requires
-measure-choices-requires c κs = ?
+measure-choices-requires c κs =
+    let g = c .before .before .before .before .before .args in
+    let w = choices-fit-told (g .greatest) (g .n) (g .rounds) (sym (c .before .before .choices-fit .ensures) ∙ not-false _ (c .before .if1 .left)) in
+    omega arith
 
--- src/choices.rt:115:46
 enum-told : tie.Need-enum-told
 enum-told c = search needs
 
--- src/choices.rt:115:25
 refuse-requires-3 : tie.Need-refuse-requires-3
 refuse-requires-3 c κs = search needs
 
--- src/choices.rt:116:18
 enum-known-used : tie.Need-enum-known-used
 enum-known-used c = search needs
 
--- src/choices.rt:117:13
 write-choices-requires : tie.Need-write-choices-requires
-write-choices-requires c κs = ?
+write-choices-requires c κs =
+    let g = c .before .before .before .before .before .before .before .before .before .before .args in
+    let w = choices-fit-told (g .greatest) (g .n) (g .rounds) (sym (c .before .before .before .before .before .before .before .choices-fit .ensures) ∙ not-false _ (c .before .before .before .before .before .before .if1 .left)) in
+    (enough-of (drawChoices (g .n) (g .rounds) (g .random .now)) _ (sym (c .before .before .used .given .1) ∙ c .before .before .before .before .measure-choices .ensures), omega arith, omega arith, omega arith, c .before .before .before .before .before .if2 .left)
 
--- src/choices.rt:103:1
 returns-3 : tie.Need-returns-3
-returns-3 c = ?
+returns-3 c =
+    let g = c .before .before .before .before .before .before .before .before .before .args in
+    runs-out _ _ _ _ _ [] (good-numbers (choicesFit (g .greatest) (g .n) (g .rounds)) (sym (c .before .before .before .before .before .before .choices-fit .ensures) ∙ not-false _ (c .before .before .before .before .before .if1 .left))) (c .before .before .before .before .if2 .left) (sym (c .before .enum-told .given .1) ∙ c .before .before .before .measure-choices .ensures) (c .refuse3 .ensures)
 
--- src/choices.rt:103:1
 same-length : tie.Need-same-length
 same-length c = search needs
 
--- src/choices.rt:103:1
 returns-4 : tie.Need-returns-4
-returns-4 c = ?
+returns-4 c =
+    let g = c .before .before .before .before .before .before .before .before .before .before .before .before .before .args in
+    takes _ _ _ _ _ [] (good-numbers (choicesFit (g .greatest) (g .n) (g .rounds)) (sym (c .before .before .before .before .before .before .before .before .before .before .choices-fit .ensures) ∙ not-false _ (c .before .before .before .before .before .before .before .before .before .if1 .left))) (c .before .before .before .before .before .before .before .before .if2 .left) (sym (c .before .before .before .before .before .used .given .1) ∙ c .before .before .before .before .before .before .before .measure-choices .ensures) (c .before .before .write-choices .ensures)
 
 pub draw-choices-up-to-spec : {M : Type 1} → statement M
 draw-choices-up-to-spec =
