@@ -7,6 +7,7 @@ use native.Mathlib.Nat.{zero-add}
 use native.Mathlib.Omega.{arith}
 use borrow.Author.Tests.{ltb-true, eqb-true}
 use lib.Dec.{eqb, ltb}
+use lib.ListN.{length, getD}
 use Rattle.algebra.specs.declared.draw.Drawn.{Drawn}
 use Rattle.algebra.specs.declared.draw.Drawn.the-variants.{Got, RanOut}
 use Rattle.algebra.specs.Lists.{tab, allBelow, count}
@@ -14,6 +15,7 @@ use Rattle.algebra.specs.Residues.{modulus}
 use Rattle.algebra.specs.Permutations.{longest, identity}
 use Rattle.algebra.specs.Drawings.{drawLeft, drawBelow, largestMultiple}
 use Rattle.algebra.proofs.Lists.{allBelow-at, &&-left, &&-right}
+use Rattle.algebra.proofs.Drawings.{draw-hit}
 use Rattle.algebra.proofs.Permutations.{identity-perm}
 
 -- ---- below the limit
@@ -31,6 +33,11 @@ below-left limit (y ∷ left) at x next e = step (ltb y limit) refl e (below-lef
 pub drawn-below : (limit : ℕ) (random : List ℕ) (at x next : ℕ) → Got x next ≡ drawBelow limit random at → x < limit
 unfolding drawBelow
 drawn-below limit random at x next e = below-left limit _ at x next e
+
+-- a byte below the limit is the one drawn
+pub drawn-at : (limit : ℕ) (random : List ℕ) (at : ℕ) → at < length random → getD random at 0 < limit → drawBelow limit random at ≡ Got (getD random at 0) (at + 1)
+unfolding drawBelow
+drawn-at limit random at = draw-hit limit random at
 
 -- ---- no value is favoured
 

@@ -3,3 +3,5 @@ pub mod Sequences
 pub mod Making
 pub mod Orders
 pub mod Outcomes
+pub mod Theorems
+pub mod Examples

@@ -9,15 +9,13 @@ use lib.ListN.{length, take, drop, length-append}
 use lib.Seq.{take-at, drop-at}
 use Rattle.algebra.specs.Residues.{modulus, Residues}
 use Rattle.algebra.specs.Permutations.{longest, IsPerm}
-use Rattle.algebra.specs.Matrices.{SystemFits}
 use Rattle.algebra.specs.Drawings.{Drawing, drew, ranOut, drawPermutation, usedBy, drawnOver}
 use Rattle.algebra.proofs.Lists.{&&-left, &&-right}
 use Rattle.algebra.proofs.Drawings.{Permutes, drawn-perm}
 use Rattle.algebra.proofs.Permutations.{length-permute, length-inverse}
-use Rattle.frames.specs.declared.kind.Kind.the-variants.{System, Public, Secret}
+use Rattle.frames.specs.declared.kind.Kind.the-variants.{Public, Secret}
 use Rattle.frames.specs.Kinds.{limits, within, alone, fits}
-use Rattle.frames.specs.Reading.{firstOf, secondOf, restOf}
-use Rattle.frames.proofs.Facts.{within-told, FrameFits, first-within, second-within, rest-length}
+use Rattle.frames.proofs.Facts.{within-told}
 use Rattle.frames.specs.Choosing.{choiceSize}
 use Rattle.frames.proofs.Passing.{Chosen}
 use Rattle.draw.specs.Sequences.{made, andThen, drawResidues}
@@ -80,10 +78,3 @@ length-publicKey a n m π start = length-permute _ _ ∙ length-inverse n π
 
 pub place-fits : (n : ℕ) → 2 ≤ n → n ≤ longest → (fits Public alone n 0 ≡ true) × (fits Secret alone n 0 ≡ true)
 place-fits n l h = (rw (le-leb 2 n l, le-leb n longest h), rw (le-leb 2 n l, le-leb n longest h))
-
--- a system that is read fits
-pub system-fits : (s : List ℕ) → FrameFits System alone s → SystemFits (restOf System s) (firstOf s) (secondOf System s)
-system-fits s f =
-    let w = first-within System alone (firstOf s) (secondOf System s) (f .form .numbers) in
-    let v = second-within System alone (firstOf s) (secondOf System s) (f .form .numbers) in
-    record { some = omega arith; less = omega arith; most = omega arith; entries = rest-length System alone s (f .form) }

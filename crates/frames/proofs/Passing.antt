@@ -15,10 +15,14 @@ use Rattle.refusals.proofs.Chain.{below-fine}
 use Rattle.algebra.specs.Lists.{stretch}
 use Rattle.algebra.specs.Residues.{modulus, Residues}
 use Rattle.algebra.specs.Permutations.{isPerm, IsPerm}
+use Rattle.algebra.specs.Matrices.{SystemFits}
 use Rattle.algebra.proofs.Lists.{from-stretch}
 use Rattle.algebra.proofs.Permutations.{isPerm←}
-use Rattle.frames.specs.Reading.{residueAt, values, permutationAt, permutations}
+use Rattle.frames.specs.declared.kind.Kind.the-variants.{System}
+use Rattle.frames.specs.Kinds.{alone}
+use Rattle.frames.specs.Reading.{firstOf, secondOf, restOf, residueAt, values, permutationAt, permutations}
 use Rattle.frames.specs.Choosing.{choiceSize, choiceOf, vectorOf, permutationOf, choiceCheck, choiceAt, choicesCheck}
+use Rattle.frames.proofs.Facts.{FrameFits, first-within, second-within, rest-length}
 use Rattle.frames.proofs.Loops.{residue-fine}
 
 pub residues-pass : (b at : ℕ) (l : List ℕ) → Residues modulus l → values b at l ≡ fine
@@ -67,3 +71,11 @@ unfolding choicesCheck
 choices-pass n N choices e h =
     rw (eq-eqb (length choices) (N * choiceSize n) e)
     (below-fine N (choiceAt n choices) (λ k l. choice-passes n (k * choiceSize n) (choiceOf choices n k) (h k l)))
+
+-- ---- a system that is read fits the matrix
+
+pub system-fits : (s : List ℕ) → FrameFits System alone s → SystemFits (restOf System s) (firstOf s) (secondOf System s)
+system-fits s f =
+    let w = first-within System alone (firstOf s) (secondOf System s) (f .form .numbers) in
+    let v = second-within System alone (firstOf s) (secondOf System s) (f .form .numbers) in
+    record { some = omega arith; less = omega arith; most = omega arith; entries = rest-length System alone s (f .form) }

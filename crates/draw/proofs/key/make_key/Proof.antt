@@ -8,7 +8,7 @@ use Rattle.frames.specs.Reading.{firstOf, secondOf, readMeans}
 use Rattle.frames.proofs.Facts.{reading-told}
 use Rattle.frames.proofs.Orders.{rest-part}
 use Rattle.draw.proofs.Orders.{bad-frame, past-frame}
-use Rattle.draw.proofs.Making.{system-fits}
+use Rattle.frames.proofs.Passing.{system-fits}
 use Rattle.frames.specs.declared.kind.Kind.the-variants.{System}
 use Rattle.draw.proofs.key.make_key.Statement.{statement}
 use Rattle.draw.proofs.key.make_key.Tie as tie
