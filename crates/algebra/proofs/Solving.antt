@@ -1,7 +1,7 @@
 -- Laws of the completed X: A X is zero, and so a key made of it has no fault.
 use mathlib.Core.Path.{_≡_, refl, sym, ap, ap₂, _∙_}
 use mathlib.Core.List.{List, [], _∷_, _++_, append-assoc, append-nil}
-use Prim.Native.Nat.{ℕ, suc, _+_, _-_, _*_, _%_, _<_, _≤_}
+use Prim.Native.Nat.{ℕ, _+_, _-_, _*_, _%_, _<_, _≤_}
 use native.Mathlib.Nat.{mod-mod, mod-lt}
 use native.Mathlib.Numerals.{add-one}
 use native.Mathlib.Decide.{decLt}
@@ -10,7 +10,7 @@ use lib.ListN.{length, getD, take, drop, set, replicate, length-append, length-s
 use lib.Seq.{length-take-le, getD-append-add, getD-take, getD-set-same, getD-set-other, set-set}
 use Rattle.algebra.specs.Lists.{tab, sumBelow, over}
 use Rattle.algebra.specs.Residues.{Residues, negative}
-use Rattle.algebra.specs.Permutations.{IsPerm, permute, unpermute, inverse}
+use Rattle.algebra.specs.Permutations.{IsPerm, unpermute}
 use Rattle.algebra.specs.Matrices.{rowTimes, rowOf, product, keyFault, SystemFits}
 use Rattle.algebra.specs.Solving.{completed}
 use Rattle.algebra.proofs.Lists.{same-list, length-tab, getD-tab, over-more}
@@ -107,7 +107,7 @@ module _ (p : ℕ) (a : List ℕ) (n m : ℕ) (d : List ℕ) where
       record {
         size = refl;
         now = sym (ap₂ (λ (l : List ℕ) (k : ℕ). l ++ drop k d) (append-nil known) (ap length (append-nil known) ∙ length-take-le (n - m) d (omega arith))
-        ∙ take-append-drop (n - m) d);
+            ∙ take-append-drop (n - m) d);
       }
 
   module _ (fits : SystemFits a n m) (room : n ≤ length d) (x : List ℕ) (i : ℕ) (c : Completing x i) (l : i < m) where

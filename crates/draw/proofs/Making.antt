@@ -1,15 +1,15 @@
 -- Laws of what each call draws, as the code that writes it needs them.
-use mathlib.Core.Path.{_≡_, refl, sym, ap, _∙_, subst}
+use mathlib.Core.Path.{_≡_, refl, _∙_}
 use mathlib.Core.Bool.{true}
 use mathlib.Core.List.{List, _++_}
-use Prim.Native.Nat.{ℕ, _+_, _-_, _≤_, _<_}
+use Prim.Native.Nat.{ℕ, _-_, _≤_, _<_}
 use native.Mathlib.Omega.{arith}
 use borrow.Author.Tests.{le-leb}
 use lib.ListN.{length, take, drop, length-append}
 use lib.Seq.{take-at, drop-at}
 use Rattle.algebra.specs.Residues.{modulus, Residues}
 use Rattle.algebra.specs.Permutations.{longest, IsPerm}
-use Rattle.algebra.specs.Drawings.{Drawing, drew, ranOut, drawPermutation, usedBy, drawnOver}
+use Rattle.algebra.specs.Drawings.{Drawing, drew, ranOut, drawPermutation}
 use Rattle.algebra.proofs.Lists.{&&-left, &&-right}
 use Rattle.algebra.proofs.Drawings.{Permutes, drawn-perm}
 use Rattle.algebra.proofs.Permutations.{length-permute, length-inverse}

@@ -8,7 +8,6 @@ use native.Mathlib.Decide.{ℕ-discrete}
 use native.Mathlib.Omega.{arith}
 use lib.ListN.{length, getD, take, drop, length-append, length-drop}
 use lib.Seq.{getD-take, getD-drop, take-all, take-append-le, drop-append-le, drop-at}
-
 use Rattle.algebra.specs.declared.draw.Drawn.{Drawn}
 use Rattle.algebra.specs.declared.draw.Drawn.the-variants.{Got, RanOut}
 use Rattle.algebra.specs.declared.draw.Used.the-variants.{To, RanOut as NoneLeft}
@@ -236,11 +235,11 @@ module _ (limit : ℕ) (random : List ℕ) where
       turn (drew l q) s = (
         s .len ∙ mul-one n,
         λ j i.
-        let e : getD (stretch 1 j l) 0 0 ≡ getD l j 0 =
-        ap (λ (z : List ℕ). getD z 0 0) (stretch-cut 1 j l) ∙ getD-take 1 (drop (j * 1) l) 0 0 (omega arith) ∙ getD-drop (j * 1) l 0 0
-        ∙ ap (λ (k : ℕ). getD l k 0) (omega arith) in
-        let m = s .len in
-        rw e at (s .each j (omega arith)),
+            let e : getD (stretch 1 j l) 0 0 ≡ getD l j 0 =
+            ap (λ (z : List ℕ). getD z 0 0) (stretch-cut 1 j l) ∙ getD-take 1 (drop (j * 1) l) 0 0 (omega arith) ∙ getD-drop (j * 1) l 0 0
+            ∙ ap (λ (k : ℕ). getD l k 0) (omega arith) in
+            let m = s .len in
+            rw e at (s .each j (omega arith)),
       )
       turn ranOut s = tt
 

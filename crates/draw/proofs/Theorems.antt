@@ -3,7 +3,7 @@
 use mathlib.Core.Path.{_≡_, refl, sym, ap, _∙_, subst}
 use mathlib.Core.Bool.{Bool, true, cond}
 use mathlib.Core.List.{List, [], _∷_, _++_}
-use Prim.Native.Nat.{ℕ, zero, suc, _+_, _-_, _≤_, _<_}
+use Prim.Native.Nat.{ℕ, zero, suc, _≤_, _<_}
 use native.Mathlib.Numerals.{add-one}
 use native.Mathlib.Omega.{arith}
 use lib.ListN.{length, take, drop, take-append-drop}
@@ -34,7 +34,7 @@ use Rattle.frames.proofs.Spelling.{frame-spells, written-read}
 use Rattle.frames.proofs.Writing.{Plain}
 use Rattle.draw.specs.Sequences.{made, andThen, someBelow, drawResidues, oneBelow, times}
 use Rattle.draw.specs.Making.{drawChallenges, drawBits, drawChoice, drawChoices, publicKey, keyFrames, drawPair, drawKey}
-use Rattle.draw.proofs.Sequences.{Always, Stretches, times-none, times-more, times-each, one-got, some-below}
+use Rattle.draw.proofs.Sequences.{Always, Stretches, times-each, one-got, some-below}
 use Rattle.draw.proofs.Making.{choice-chosen, place-fits, Pair, pair-drawn, length-publicKey}
 
 -- ---- residues and permutations

@@ -100,7 +100,13 @@ fn write_choices(n: usize, rounds: usize, random: &[u8], out: &mut [u8])
 }
 
 // Draws the choices of N rounds, of which there are at most `greatest`.
-fn draw_choices_up_to(greatest: usize, n: usize, rounds: usize, random: &[u8], out: &mut [u8]) -> Taken
+fn draw_choices_up_to(
+    greatest: usize,
+    n: usize,
+    rounds: usize,
+    random: &[u8],
+    out: &mut [u8],
+) -> Taken
     requires { ⌜ greatest < 256 ⌝ }
     ensures { λ r. ⌜ Draws (bare (choicesFit greatest n rounds)) (rounds * choiceSize n) (drawChoices n rounds (now (random .entry))) (now (random .entry)) (now (out .entry)) r (now (out .exit)) ⌝ }
 {

@@ -86,7 +86,16 @@ fn write_key(a: &[u8], n: usize, m: usize, random: &[u8], out: &mut [u8])
 }
 
 // As write_key, with room for pi, X and V.
-fn write_key_with(a: &[u8], n: usize, m: usize, random: &[u8], out: &mut [u8], pi: &mut [u8], x: &mut [u8], v: &mut [u8])
+fn write_key_with(
+    a: &[u8],
+    n: usize,
+    m: usize,
+    random: &[u8],
+    out: &mut [u8],
+    pi: &mut [u8],
+    x: &mut [u8],
+    v: &mut [u8],
+)
     requires { ⌜ SystemFits (now a) n m × Enough (drawPair n m (now random)) × (keySize n ≤ length (now out)) × (longest ≤ length (now pi)) × (longest ≤ length (now x)) × (longest ≤ length (now v)) ⌝ }
     ensures { λ _. ⌜ now (out .exit) ≡ drawnOver (drawKey (now (a .entry)) n m (now (random .entry))) (now (out .entry)) ⌝ }
 {

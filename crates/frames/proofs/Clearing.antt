@@ -1,6 +1,6 @@
 -- Laws of cleared bits: those of the rounds stay, and no unused one is set.
-use mathlib.Core.Path.{_≡_, refl, sym, ap, ap₂, _∙_}
-use mathlib.Core.Bool.{true, false, not}
+use mathlib.Core.Path.{_≡_, sym, ap, _∙_}
+use mathlib.Core.Bool.{true, not}
 use mathlib.Core.List.{List, _++_}
 use Prim.Native.Nat.{ℕ, zero, suc, _+_, _-_, _*_, _/_, _%_, _^_, _≤_, _<_}
 use native.Mathlib.Nat.{add-zero, add-suc, mul-one, mul-assoc, pow-suc, one-le-pow, div-div-eq-div-mul, mul-div-cancel, mul-div-mul-right, mul-mod-left, mul-comm}
@@ -8,8 +8,8 @@ use native.Mathlib.Decide.{ℕ-discrete}
 use native.Mathlib.Omega.{arith}
 use lib.Dec.{eqb}
 use lib.ListN.{length, getD, take, drop, set, length-set, take-append-drop}
-use lib.Seq.{length-take-le, getD-take, getD-set-same, getD-set-other, set-append-left}
-use Rattle.algebra.specs.Lists.{allBelow, over}
+use lib.Seq.{length-take-le, getD-set-same, getD-set-other, set-append-left}
+use Rattle.algebra.specs.Lists.{over}
 use Rattle.algebra.proofs.Lists.{allBelow-all}
 use Rattle.frames.specs.PackedBits.{bitAt, clearFrom, unusedClear}
 use Rattle.frames.specs.Clearing.{packedSize, clearLow, cleared}

@@ -8,9 +8,9 @@ use native.Mathlib.Omega.{arith}
 use borrow.Author.Tests.{eq-eqb}
 use lib.ListN.{length, take, drop}
 use lib.Seq.{take-all, take-at, drop-at}
-use Rattle.refusals.specs.Number.{SHAPE, PERM}
+use Rattle.refusals.specs.Number.{PERM}
 use Rattle.refusals.specs.Buffer.{CHOICES}
-use Rattle.refusals.specs.Told.{Told, fine, first, demand}
+use Rattle.refusals.specs.Told.{fine, first, demand}
 use Rattle.refusals.proofs.Chain.{below-fine}
 use Rattle.algebra.specs.Lists.{stretch}
 use Rattle.algebra.specs.Residues.{modulus, Residues}

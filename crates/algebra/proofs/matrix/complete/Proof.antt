@@ -41,7 +41,7 @@ slice-aggregate-row-at c =
 
 row-at-requires : tie.Need-row-at-requires Inv-loop μ-loop
 row-at-requires c κs =
-    let g = c .before .before .before .before .before  in
+    let g = c .before .before .before .before .before in
     let s = c .before .before .loop .inv .1 .size in
     let f = stretch-fits (g .args .n - g .args .m) _ _ (c .before .loop-test .taken) in
     let e = g .pre .0 .entries in
@@ -64,7 +64,7 @@ loop-less c = search needs
 
 loop-again : tie.Need-loop-again Inv-loop μ-loop
 loop-again c =
-    let g = c .before .before .before .before .before .before .before  in
+    let g = c .before .before .before .before .before .before .before in
     let l = c .before .before .before .before .loop in
     let t = c .before .before .before .loop-test .taken in (
       search needs,

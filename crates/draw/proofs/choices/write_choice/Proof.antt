@@ -18,7 +18,7 @@ use Rattle.draw.proofs.choices.write_choice.Tie as tie
 
 write-below-requires : tie.Need-write-below-requires
 unfolding drawChoice
-write-below-requires c κs = let g = c .before .before .before  in (enough-first (drawResidues (g .args .n) (g .args .random .now) (g .args .at)) (drawPermutation (g .args .n) (g .args .random .now)) (g .pre .0), search needs)
+write-below-requires c κs = let g = c .before .before .before in (enough-first (drawResidues (g .args .n) (g .args .random .now) (g .args .at)) (drawPermutation (g .args .n) (g .args .random .now)) (g .pre .0), search needs)
 
 sub-write-permutation : tie.Need-sub-write-permutation
 sub-write-permutation c = search needs
@@ -32,7 +32,7 @@ part-write-permutation-end c = search needs
 write-permutation-requires : tie.Need-write-permutation-requires
 unfolding drawChoice
 write-permutation-requires c κs =
-    let g = c .before .before .before .before .before .before .before  in (
+    let g = c .before .before .before .before .before .before .before in (
       enough-next (drawResidues (g .args .n) (g .args .random .now) (g .args .at)) (drawPermutation (g .args .n) (g .args .random .now)) _ (g .pre .0) (c .before .before .before .write-below .ensures .0),
       search needs,
       search needs,
@@ -45,7 +45,7 @@ same-length c = search needs
 returns : tie.Need-returns
 unfolding drawChoice
 returns c =
-    let g = c .before .before .before .before .before .before .before .before .before .before  in
+    let g = c .before .before .before .before .before .before .before .before .before .before in
     let n = g .args .n in
     let random = g .args .random .now in
     let out = g .args .out .now in

@@ -53,7 +53,7 @@ part-write-choice-end c = search needs
 write-choice-requires : tie.Need-write-choice-requires Inv-loop μ-loop
 unfolding drawChoices
 write-choice-requires c κs =
-    let g = c .before .before .before .before .before  in
+    let g = c .before .before .before .before .before in
     let l = c .before .before .loop .inv in
     let s = l .2 .size in
     let f = stretch-fits (choiceSize (g .args .n)) _ _ (c .before .loop-test .taken) in
@@ -73,7 +73,7 @@ loop-less c = search needs
 
 loop-again : tie.Need-loop-again Inv-loop μ-loop
 loop-again c =
-    let g = c .before .before .before .before .before .before .before .before  in
+    let g = c .before .before .before .before .before .before .before .before in
     let n = g .args .n in
     let random = g .args .random .now in
     let l = c .before .before .before .before .before .loop in

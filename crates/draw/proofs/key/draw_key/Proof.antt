@@ -47,7 +47,7 @@ enum-known-used c = search needs
 
 write-key-requires : tie.Need-write-key-requires
 write-key-requires c κs =
-    let g = c .before .before .before .before .before .before .before .before .before .before .before  in
+    let g = c .before .before .before .before .before .before .before .before .before .before .before in
     let s = c .before .before .before .before .before .before .before .frame-size .ensures .0 in
     let t = c .before .before .before .before .before .before .frame-size2 .ensures .0 in
     (g .pre, enough-of (drawPair (g .args .n) (g .args .m) (g .args .random .now)) _ (sym (c .before .before .used .given .1) ∙ c .before .before .before .before .measure-pair .ensures), omega arith)
@@ -55,7 +55,7 @@ write-key-requires c κs =
 returns-2 : tie.Need-returns-2
 unfolding drawKey
 returns-2 c =
-    let g = c .before .before .before .before .before .before .before .before .before .before  in
+    let g = c .before .before .before .before .before .before .before .before .before .before in
     let s = c .before .before .before .before .before .before .frame-size .ensures .0 in
     let t = c .before .before .before .before .before .frame-size2 .ensures .0 in
     runs-out _ _ _ _ _ [] refl (omega arith) (sym (c .before .enum-told .given .1) ∙ c .before .before .before .measure-pair .ensures ∙ sym (made-used (λ (l : List ℕ). keyFrames (g .args .a .now) (g .args .n) (g .args .m) (take (g .args .n) l) (drop (g .args .n) l)) (drawPair (g .args .n) (g .args .m) (g .args .random .now)))) (c .refuse2 .ensures)
@@ -66,7 +66,7 @@ same-length c = search needs
 returns-3 : tie.Need-returns-3
 unfolding drawKey
 returns-3 c =
-    let g = c .before .before .before .before .before .before .before .before .before .before .before .before .before .before  in
+    let g = c .before .before .before .before .before .before .before .before .before .before .before .before .before .before in
     let s = c .before .before .before .before .before .before .before .before .before .before .frame-size .ensures .0 in
     let t = c .before .before .before .before .before .before .before .before .before .frame-size2 .ensures .0 in
     takes _ _ _ _ _ [] refl (omega arith) (sym (c .before .before .before .before .before .used .given .1) ∙ c .before .before .before .before .before .before .before .measure-pair .ensures ∙ sym (made-used (λ (l : List ℕ). keyFrames (g .args .a .now) (g .args .n) (g .args .m) (take (g .args .n) l) (drop (g .args .n) l)) (drawPair (g .args .n) (g .args .m) (g .args .random .now)))) (c .before .before .write-key .ensures)

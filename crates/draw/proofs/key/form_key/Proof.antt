@@ -24,7 +24,7 @@ use Rattle.draw.proofs.key.form_key.Tie as tie
 write-permutation-requires : tie.Need-write-permutation-requires
 unfolding drawPair
 write-permutation-requires c κs =
-    let g = c .before .before .before .before .before .before  in
+    let g = c .before .before .before .before .before .before in
     let s = g .pre .0 in (
       enough-first (drawPermutation (g .args .n) (g .args .random .now) 0) (drawResidues (g .args .n - g .args .m) (g .args .random .now)) (g .pre .1),
       omega arith,
@@ -38,7 +38,7 @@ sub-write-below c = search needs
 write-below-requires : tie.Need-write-below-requires
 unfolding drawPair
 write-below-requires c κs =
-    let g = c .before .before .before .before .before .before .before .before .before .before  in
+    let g = c .before .before .before .before .before .before .before .before .before .before in
     let s = g .pre .0 in (
       enough-next (drawPermutation (g .args .n) (g .args .random .now) 0) (drawResidues (g .args .n - g .args .m) (g .args .random .now)) _ (g .pre .1) (c .before .before .before .write-permutation .ensures .0),
       omega arith,
@@ -61,7 +61,7 @@ slice-aggregate-unpermute-into-2 c = let s = c .before .before .before .before .
 
 unpermute-into-requires : tie.Need-unpermute-into-requires
 unpermute-into-requires c κs =
-    let g = c .before .before .before .before .before .before .before .before .before .before .before .before .before .before .before .before .before .before .before .before  in
+    let g = c .before .before .before .before .before .before .before .before .before .before .before .before .before .before .before .before .before .before .before .before in
     let n = g .args .n in
     let s = g .pre .0 in
     let p = c .before .before .before .before .before .before .before .before .before .before .before .before .before .write-permutation in
@@ -85,7 +85,7 @@ same-length-3 c = search needs
 returns : tie.Need-returns
 unfolding drawPair publicKey
 returns c =
-    let g = c .before .before .before .before .before .before .before .before .before .before .before .before .before .before .before .before .before .before .before .before .before .before .before  in
+    let g = c .before .before .before .before .before .before .before .before .before .before .before .before .before .before .before .before .before .before .before .before .before .before .before in
     let n = g .args .n in
     let m = g .args .m in
     let entries = g .args .a .now in

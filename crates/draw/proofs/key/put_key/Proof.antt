@@ -34,7 +34,7 @@ same-length c = search needs
 
 returns : tie.Need-returns
 returns c =
-    let g = c .before .before .before .before .before .before .before .before .before .before .before .before  in
+    let g = c .before .before .before .before .before .before .before .before .before .before .before .before in
     let n = g .args .n in
     let one = c .before .before .before .before .before .before .before .put-frame in
     let two = c .before .before .put-frame2 in

@@ -35,7 +35,7 @@ slice-aggregate-put-key-2 c = let s = c .before .before .before .before .before 
 
 put-key-requires : tie.Need-put-key-requires
 put-key-requires c κs =
-    let g = c .before .before .before .before .before .before .before .before .before .before .before .before .before .before .before .before .before .before .before  in
+    let g = c .before .before .before .before .before .before .before .before .before .before .before .before .before .before .before .before .before .before .before in
     let s = g .pre .0 in
     let f = c .before .before .before .before .before .before .before .before .before .form-key in (
       omega arith,
@@ -60,7 +60,7 @@ same-length-4 c = search needs
 returns : tie.Need-returns
 unfolding drawKey keyFrames
 returns c =
-    let g = c .before .before .before .before .before .before .before .before .before .before .before .before .before .before .before .before .before .before .before .before .before .before  in
+    let g = c .before .before .before .before .before .before .before .before .before .before .before .before .before .before .before .before .before .before .before .before .before .before in
     let n = g .args .n in
     let m = g .args .m in
     let fits = g .pre .0 in

@@ -24,7 +24,7 @@ size-of-requires : tie.Need-size-of-requires
 size-of-requires c κs = search needs
 
 write-below-requires : tie.Need-write-below-requires
-write-below-requires c κs = let g = c .before .before .before .before .before  in let e = c .before .size-of .ensures .0 in (rw e (g .pre .0), omega arith)
+write-below-requires c κs = let g = c .before .before .before .before .before in let e = c .before .size-of .ensures .0 in (rw e (g .pre .0), omega arith)
 
 clear-unused-requires : tie.Need-clear-unused-requires
 clear-unused-requires c κs = search needs

@@ -33,7 +33,7 @@ same-length c = c .before .before .before .before .loop .inv .1 .size
 returns : tie.Need-returns Inv-loop μ-loop
 returns c =
     let l = c .before .before .before .before .loop in
-    let g = c .before .before .before .before .before .before .before  in
+    let g = c .before .before .before .before .before .before .before in
     absurd (subst Enough (one-short _ _ _ (sym (c .enum-told .given .1) ∙ c .before .before .draw-below .ensures))
     (written-enough _ _ _ _ _ _ (l .inv .1) _ (c .before .before .before .loop-test .taken) (g .pre .0)))
 
@@ -52,7 +52,7 @@ loop-less c = search needs
 loop-again : tie.Need-loop-again Inv-loop μ-loop
 loop-again c =
     let l = c .before .before .before .before .before .loop in
-    let g = c .before .before .before .before .before .before .before .before  in
+    let g = c .before .before .before .before .before .before .before .before in
     let w = l .inv .1 in
     let x = c .before .x .given .0 .0 in (
       search needs,
