@@ -9,6 +9,7 @@ use Rattle.algebra.specs.Lists.{tab, sumBelow, allBelow, firstFrom, coun
 use Rattle.algebra.specs.Residues.{modulus, negative, addScaled, subScaled}
 use Rattle.algebra.specs.Permutations.{isPerm, permute, compose, identity, placeOf, inverse, unpermute}
 use Rattle.algebra.specs.Matrices.{rowTimes, product, entry, productAt, keyFault}
+use Rattle.algebra.specs.Solving.{completed}
 use Rattle.algebra.specs.Drawings.{drawLeft, drawBelow, drew, ranOut, largestMultiple, exchange, shuffle, drawPermutation}
 
 abbrev four : ℕ → ℕ → ℕ → ℕ → List ℕ
@@ -66,6 +67,13 @@ matrices : (product 7 entries 4 2 x ≡ 4 ∷ 6 ∷ [])
     × (keyFault 7 entries 4 2 (four 1 0 1 4) (four 0 1 2 3) ≡ 0)
 unfolding product productAt keyFault rowTimes entry stretch permute firstFrom sumBelow tab
 matrices = (refl, refl, refl, refl, refl)
+
+-- X starts with (5, 6); its rows sum to 5 + 12 and 15 + 24, of which 4 and 3 are the negatives. A row that sums to 0 is completed by 0.
+solving : (completed 7 entries 4 2 (5 ∷ 6 ∷ []) ≡ four 5 6 4 3)
+    × (product 7 entries 4 2 (four 5 6 4 3) ≡ 0 ∷ 0 ∷ [])
+    × (completed 7 entries 4 2 (5 ∷ 1 ∷ []) ≡ four 5 1 0 2)
+unfolding completed product negative rowTimes stretch sumBelow tab
+solving = (refl, refl, refl)
 
 -- 255 is skipped for 3 places, and for a residue; no byte is for 4 places
 drawings : (largestMultiple 3 ≡ 255)

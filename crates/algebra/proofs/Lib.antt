@@ -4,7 +4,9 @@ pub mod Sums
 pub mod Permutations
 pub mod Vectors
 pub mod Matrices
+pub mod Solving
 pub mod Primes
 pub mod Marks
 pub mod Drawings
+pub mod Fair
 pub mod Examples

@@ -3,4 +3,5 @@ pub mod Lists
 pub mod Residues
 pub mod Permutations
 pub mod Matrices
+pub mod Solving
 pub mod Drawings

@@ -2,13 +2,15 @@
 use crate::LONGEST;
 use crate::MODULUS;
 use crate::permutation::permute_into;
+use crate::residue::negative;
 ghost use mathlib.Core.Path.{_≡_};
-ghost use Prim.Native.Nat.{_+_, _*_, _≤_, _<_};
-ghost use lib.ListN.{length};
+ghost use Prim.Native.Nat.{_+_, _-_, _*_, _≤_, _<_};
+ghost use lib.ListN.{length, take};
 ghost use Rattle.algebra.specs.Lists.{over, stretch, firstFrom};
 ghost use Rattle.algebra.specs.Residues.{modulus};
 ghost use Rattle.algebra.specs.Permutations.{longest, IsPerm};
 ghost use Rattle.algebra.specs.Matrices.{rowTimes, product, nonzeroRow, keyFault, SystemFits};
+ghost use Rattle.algebra.specs.Solving.{completed};
 
 // Row i of A X, from that row of A'. The sum of at most 64 products of bytes is reduced once.
 pub fn row_times(row: &[u8], x: &[u8], i: usize) -> u8
@@ -45,6 +47,21 @@ pub fn product_into(a: &[u8], n: usize, m: usize, x: &[u8], out: &mut [u8])
     let mut i: usize = 0;
     while i < m {
         out[i] = row_at(a, d, x, i);
+        i += 1;
+    }
+}
+
+// Completes X after its first n - m entries, so that A X is zero. The entry to come is 0 while its row is summed.
+pub fn complete(a: &[u8], n: usize, m: usize, x: &mut [u8])
+    requires { ⌜ SystemFits (now a) n m × (n ≤ length (now x)) ⌝ }
+    ensures { λ _. ⌜ now (x .exit) ≡ over (completed modulus (now (a .entry)) n m (take (n - m) (now (x .entry)))) (now (x .entry)) ⌝ }
+{
+    let d = n - m;
+    let mut i: usize = 0;
+    while i < m {
+        let k = d + i;
+        x[k] = 0;
+        x[k] = negative(row_at(a, d, &x[..n], i));
         i += 1;
     }
 }

@@ -14,6 +14,7 @@ use Rattle.frames.specs.declared.kind.Kind.{Kind}
 use Rattle.frames.specs.declared.kind.Kind.the-variants.{System, Public, Secret, Commitments, Challenges, Answers, Bits, Openings}
 use Rattle.frames.specs.Kinds.{limits, alone}
 use Rattle.frames.specs.PackedBits.{bitAt, unusedClear, byteOf, pack}
+use Rattle.frames.specs.Clearing.{cleared}
 use Rattle.frames.specs.Reading.{header, shape, values, permutations, reading, openingCheck, openingOf}
 use Rattle.frames.specs.Writing.{frame, plainCheck, writing}
 use Rattle.frames.specs.Choosing.{vectorOf, permutationOf, choiceCheck, choicesCheck}
@@ -91,6 +92,13 @@ bits : (read Bits (0 ∷ 5 ∷ 1 ∷ 7 ∷ 9 ∷ 191 ∷ 128 ∷ []) ≡ done (9
     × (pack 9 (λ (k : ℕ). not (eqb k 1)) ≡ 191 ∷ 128 ∷ [])
 unfolding reading header shape unusedClear bitAt allBelow pack byteOf tab sumBelow
 bits = (refl, refl, refl, refl, refl, refl, refl)
+
+-- 11 bits of two bytes: the last five are unused; of 16 bits none is
+cleared-bits : (cleared 11 (181 ∷ 255 ∷ []) ≡ 181 ∷ 224 ∷ [])
+    × (cleared 16 (181 ∷ 255 ∷ []) ≡ 181 ∷ 255 ∷ [])
+    × (cleared 1 (127 ∷ []) ≡ 0 ∷ [])
+unfolding cleared
+cleared-bits = (refl, refl, refl)
 
 abbrev two-openings : List ℕ
 two-openings = 0 ∷ 10 ∷ 1 ∷ 8 ∷ 3 ∷ 2 ∷ 2 ∷ 0 ∷ 1 ∷ 0 ∷ 1 ∷ 2 ∷ []

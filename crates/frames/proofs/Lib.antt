@@ -5,6 +5,8 @@ pub mod Facts
 pub mod Writing
 pub mod OpeningLaws
 pub mod PackedBits
+pub mod Clearing
+pub mod Passing
 pub mod Spelling
 pub mod Outcomes
 pub mod Examples

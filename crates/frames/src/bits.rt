@@ -1,9 +1,11 @@
 // Packed bits: the highest bit of a byte first.
 ghost use mathlib.Core.Path.{_≡_};
-ghost use Prim.Native.Nat.{_/_, _<_};
-ghost use lib.ListN.{length};
+ghost use Prim.Native.Nat.{_/_, _≤_, _<_};
+ghost use lib.ListN.{length, take};
+ghost use Rattle.algebra.specs.Lists.{over};
 ghost use Rattle.frames.specs.Kinds.{offsets};
 ghost use Rattle.frames.specs.PackedBits.{bitAt, unusedClear};
+ghost use Rattle.frames.specs.Clearing.{packedSize, clearLow, cleared};
 
 // Bit k.
 pub fn bit_at(bytes: &[u8], k: usize) -> bool
@@ -27,4 +29,22 @@ pub fn unused_clear(bytes: &[u8], rounds: usize) -> bool
         k += 1;
     }
     true
+}
+
+// x without its lowest `spare` bits.
+fn clear_low(x: u8, spare: usize) -> u8
+    requires { ⌜ spare < 8 ⌝ }
+    ensures { λ r. ⌜ r ≡ clearLow spare x ⌝ }
+{
+    (x >> spare) << spare
+}
+
+// Clears the unused low bits of the bytes of N rounds.
+pub fn clear_unused(rounds: usize, bytes: &mut [u8])
+    requires { ⌜ (0 < rounds) × (rounds < 256) × (packedSize rounds ≤ length (now bytes)) ⌝ }
+    ensures { λ _. ⌜ now (bytes .exit) ≡ over (cleared rounds (take (packedSize rounds) (now (bytes .entry)))) (now (bytes .entry)) ⌝ }
+{
+    let size = (rounds + 7) / 8;
+    let last = size - 1;
+    bytes[last] = clear_low(bytes[last], 8 * size - rounds);
 }

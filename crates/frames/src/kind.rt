@@ -161,7 +161,7 @@ fn second_limits(kind: Kind, expected: Expected, first: usize) -> Limits
     }
 }
 
-fn within(limits: Limits, x: usize) -> bool
+pub fn within(limits: Limits, x: usize) -> bool
     ensures { λ r. ⌜ r ≡ within limits x ⌝ }
 {
     if x < limits.least {

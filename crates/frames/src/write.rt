@@ -52,7 +52,7 @@ fn check_plain(kind: Kind, a: usize, b: usize, plain: &[u8]) -> Checked
 }
 
 // Writes a frame, for which there is room.
-fn put_frame(kind: Kind, a: usize, b: usize, rest: &[u8], out: &mut [u8])
+pub fn put_frame(kind: Kind, a: usize, b: usize, rest: &[u8], out: &mut [u8])
     requires { ⌜ (a < 256) × (b < 256) × (length (now rest) < 65000) × (table kind .start + length (now rest) ≤ length (now out)) ⌝ }
     ensures { λ _. ⌜ now (out .exit) ≡ over (frame kind a b (now (rest .entry))) (now (out .entry)) ⌝ }
 {

@@ -1,0 +1,10 @@
+-- X from its first n - m entries, so that A X is zero (document 01, "Drawing from lent bytes").
+use mathlib.Core.List.{List, _++_}
+use Prim.Native.Nat.{ℕ}
+use Rattle.algebra.specs.Lists.{tab}
+use Rattle.algebra.specs.Residues.{negative}
+use Rattle.algebra.specs.Matrices.{rowTimes, rowOf}
+
+-- entry n - m + i is the negative of row i's sum over the entries before; as these have no entry n - m + i, that is the row of A times them
+unfoldable pub completed : ℕ → List ℕ → ℕ → ℕ → List ℕ → List ℕ
+completed p a n m start = start ++ tab m (λ (i : ℕ). negative p (rowTimes p (rowOf a n m i) start i))

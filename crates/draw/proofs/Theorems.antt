@@ -1,0 +1,172 @@
+-- What is drawn is well formed: residues are below 251, permutations are permutations, challenges, bits and keys are frames that are read as the
+-- values drawn, choices pass their check, and a key has no fault.
+use mathlib.Core.Path.{_≡_, refl, sym, ap, _∙_, subst}
+use mathlib.Core.Bool.{Bool, true, cond}
+use mathlib.Core.List.{List, [], _∷_, _++_}
+use Prim.Native.Nat.{ℕ, zero, suc, _≤_, _<_}
+use native.Mathlib.Numerals.{add-one}
+use native.Mathlib.Omega.{arith}
+use lib.ListN.{length, take, drop, take-append-drop}
+use lib.Seq.{take-suc}
+use Rattle.refusals.specs.Told.{done, fine}
+use Rattle.algebra.specs.Lists.{tab}
+use Rattle.algebra.specs.Residues.{modulus, Residues}
+use Rattle.algebra.specs.Permutations.{IsPerm}
+use Rattle.algebra.specs.Matrices.{keyFault, SystemFits}
+use Rattle.algebra.specs.Drawings.{Drawing, drew, ranOut, drawPermutation}
+use Rattle.algebra.proofs.Lists.{length-tab, getD-tab, tab-of}
+use Rattle.algebra.proofs.Drawings.{Permutes, drawn-perm}
+use Rattle.algebra.proofs.Fair.{drawn-at}
+use Rattle.algebra.proofs.Solving.{solved, residues-solved}
+use Rattle.frames.specs.declared.kind.Kind.{Kind}
+use Rattle.frames.specs.declared.kind.Kind.the-variants.{Public, Secret, Challenges, Bits}
+use Rattle.frames.specs.Kinds.{within, alone, table}
+use Rattle.frames.specs.PackedBits.{bitAt}
+use Rattle.frames.specs.Clearing.{packedSize, cleared}
+use Rattle.frames.specs.Values.{Bytes, valuesOf}
+use Rattle.frames.specs.Reading.{restOf, reading}
+use Rattle.frames.specs.Writing.{frame}
+use Rattle.frames.specs.Choosing.{choiceSize, choicesCheck}
+use Rattle.frames.proofs.Facts.{within-told}
+use Rattle.frames.proofs.Clearing.{length-cleared, cleared-keeps, cleared-clear}
+use Rattle.frames.proofs.Passing.{residues-pass, permutation-passes, Chosen, choices-pass}
+use Rattle.frames.proofs.Spelling.{frame-spells, written-read}
+use Rattle.frames.proofs.Writing.{Plain}
+use Rattle.draw.specs.Sequences.{made, andThen, someBelow, drawResidues, oneBelow, times}
+use Rattle.draw.specs.Making.{drawChallenges, drawBits, drawChoice, drawChoices, publicKey, keyFrames, drawPair, drawKey}
+use Rattle.draw.proofs.Sequences.{Always, Stretches, times-each, one-got, some-below}
+use Rattle.draw.proofs.Making.{choice-chosen, place-fits, Pair, pair-drawn, length-publicKey}
+
+-- ---- residues and permutations
+
+pub residues-drawn : (n : ℕ) (random : List ℕ) (at : ℕ) (l : List ℕ) (next : ℕ) → drawResidues n random at ≡ drew l next
+    → (length l ≡ n) × Residues modulus l
+residues-drawn n random at l next e = subst (Always (λ (l : List ℕ). (length l ≡ n) × Residues modulus l)) e (some-below modulus random n at)
+
+pub permutation-drawn : (n : ℕ) (random : List ℕ) (at : ℕ) (l : List ℕ) (next : ℕ) → 0 < n → drawPermutation n random at ≡ drew l next → IsPerm n l
+permutation-drawn n random at l next pos e = subst (Permutes n) e (drawn-perm n random at pos)
+
+-- ---- frames
+
+-- what was drawn of which s was made
+record Source (f : List ℕ → List ℕ) (d : Drawing) (s : List ℕ) (next : ℕ) : Type 0 where
+  list : List ℕ
+  drawn : d ≡ drew list next
+  same : s ≡ f list
+
+source : (f : List ℕ → List ℕ) (d : Drawing) (s : List ℕ) (next : ℕ) → made f d ≡ drew s next → Source f d s next
+source f (drew l p) s next e = let q : p ≡ next = cc in let r : s ≡ f l = cc in record { list = l; drawn = ap (drew l) q; same = r }
+source f ranOut s next e = let z : _≡_ {A = ℕ} 0 1 = cc in absurd (omega arith)
+
+-- a frame of one number that its reader accepts, and what it holds
+pub record Accepted (k : Kind) (number : ℕ) (rest s : List ℕ) : Type 0 where
+  pub accepts : reading k alone s ≡ done (number ∷ 0 ∷ table k .start ∷ [])
+  pub holds : restOf k s ≡ rest
+
+accepted : (k : Kind) (number : ℕ) (rest : List ℕ) → Plain k number 0 rest → Accepted k number rest (frame k number 0 rest)
+accepted k number rest p = record { accepts = written-read k number 0 rest p; holds = frame-spells k number 0 rest (p .numbers) .tail }
+
+-- challenges are read as the residues drawn
+pub record ChallengesDrawn (N : ℕ) (random s : List ℕ) (next : ℕ) : Type 0 where
+  pub challenges : List ℕ
+  pub drawn : drawResidues N random 0 ≡ drew challenges next
+  pub frame : Accepted Challenges N challenges s
+
+pub challenges-drawn : (N : ℕ) (random s : List ℕ) (next : ℕ) → within (alone .rounds) N ≡ true → drawChallenges N random ≡ drew s next
+    → ChallengesDrawn N random s next
+unfolding drawChallenges
+challenges-drawn N random s next t e =
+    let q = source (frame Challenges N 0) (drawResidues N random 0) s next e in
+    let r = residues-drawn N random 0 (q .list) next (q .drawn) in
+    record {
+      challenges = q .list;
+      drawn = q .drawn;
+      frame = subst (Accepted Challenges N (q .list)) (sym (q .same))
+          (accepted Challenges N (q .list)
+          (record { numbers = rw t; size = r .0; content = ([], residues-pass _ 0 (q .list) (r .1)); spare = refl }));
+    }
+
+-- bits are read as the first N bits of the bytes drawn, highest first
+pub record BitsDrawn (N : ℕ) (random s : List ℕ) (next : ℕ) : Type 0 where
+  pub bytes : List ℕ
+  pub drawn : someBelow 256 (packedSize N) random 0 ≡ drew bytes next
+  pub frame : Accepted Bits N (cleared N bytes) s
+  pub bits : valuesOf Bits N 0 (restOf Bits s) ≡ tab N (λ (k : ℕ). cond (bitAt bytes k) 1 0) ∷ []
+
+pub bits-drawn : (N : ℕ) (random s : List ℕ) (next : ℕ) → within (alone .rounds) N ≡ true → drawBits N random ≡ drew s next → BitsDrawn N random s next
+unfolding drawBits
+bits-drawn N random s next t e =
+    let q = source (λ (l : List ℕ). frame Bits N 0 (cleared N l)) (someBelow 256 (packedSize N) random 0) s next e in
+    let l = q .list in
+    let z = subst (Always (λ (l : List ℕ). (length l ≡ packedSize N) × Residues 256 l)) (q .drawn) (some-below 256 random (packedSize N) 0) .0 in
+    let w = within-told (alone .rounds) N t in
+    let a =
+    accepted Bits N (cleared N l)
+    (record { numbers = rw t; size = length-cleared N l ∙ z; content = ([], refl); spare = cleared-clear N l (w .0) z }) in
+    let f = subst (Accepted Bits N (cleared N l)) (sym (q .same)) a in
+    record {
+      bytes = l;
+      drawn = q .drawn;
+      frame = f;
+      bits = ap (λ (r : List ℕ). tab N (λ (k : ℕ). cond (bitAt r k) 1 0) ∷ []) (f .holds)
+          ∙ ap (λ (r : List ℕ). r ∷ [])
+          (tab-of N _ _ (length-tab N _) (λ k i. getD-tab N _ k i ∙ ap (λ (b : Bool). cond b 1 0) (sym (cleared-keeps N l (w .0) z k i))));
+    }
+
+-- bytes are never skipped: the first n are drawn as they come
+pub bytes-drawn : (random : List ℕ) → Bytes random → (n : ℕ) → n ≤ length random → someBelow 256 n random 0 ≡ drew (take n random) n
+unfolding times
+bytes-drawn random b zero h = refl
+bytes-drawn random b (suc n) h =
+    ap (λ (d : Drawing). andThen d (oneBelow 256 random)) (bytes-drawn random b n (omega arith))
+    ∙ ap (made (λ (m : List ℕ). take n random ++ m)) (one-got 256 random n _ _ (sym (drawn-at 256 random n h (b n))))
+    ∙ rw (add-one, ← take-suc random n 0 h)
+
+-- ---- choices pass their check
+
+pub choices-drawn : (n N : ℕ) (random l : List ℕ) (next : ℕ) → 0 < n → drawChoices n N random ≡ drew l next → choicesCheck n N l ≡ fine
+unfolding drawChoices
+choices-drawn n N random l next pos e =
+    let s = subst (Always (Stretches (Chosen n) (choiceSize n) N)) e (times-each (Chosen n) (choiceSize n) (drawChoice n random) (choice-chosen n random pos) N 0) in
+    choices-pass n N l (s .len) (s .each)
+
+-- ---- a key has no fault
+
+pub record KeyDrawn (a : List ℕ) (n m : ℕ) (random s : List ℕ) (next : ℕ) : Type 0 where
+  pub π : List ℕ
+  pub v : List ℕ
+  pub start : List ℕ
+  pub drawn : drawPair n m random ≡ drew (π ++ start) next
+  pub formed : v ≡ publicKey a n m π start
+  pub both : s ≡ frame Public n 0 v ++ frame Secret n 0 π
+  pub public : Accepted Public n v (frame Public n 0 v)
+  pub secret : Accepted Secret n π (frame Secret n 0 π)
+  pub valid : keyFault modulus a n m v π ≡ m
+
+pub key-drawn : (a : List ℕ) (n m : ℕ) (random s : List ℕ) (next : ℕ) → SystemFits a n m → drawKey a n m random ≡ drew s next
+    → KeyDrawn a n m random s next
+unfolding drawKey keyFrames publicKey
+key-drawn a n m random s next f e =
+    let q = source (λ (l : List ℕ). keyFrames a n m (take n l) (drop n l)) (drawPair n m random) s next e in
+    let p = subst (Always (Pair n m)) (q .drawn) (pair-drawn n m random (omega arith)) in
+    let π = take n (q .list) in
+    let start = drop n (q .list) in
+    let v = publicKey a n m π start in
+    let t = place-fits n (omega arith) (f .most) in
+    record {
+      π = π;
+      v = v;
+      start = start;
+      drawn = q .drawn ∙ ap (λ (l : List ℕ). drew l next) (sym (take-append-drop n (q .list)));
+      formed = refl;
+      both = q .same;
+      public = accepted Public n v
+          (record {
+            numbers = t .0;
+            size = length-publicKey a n m π start;
+            content = ([], residues-pass _ 0 v (residues-solved modulus a n m start (omega arith) f (p .len) π (p .perm) (p .residues)));
+            spare = refl;
+          });
+      secret = accepted Secret n π (record { numbers = t .1; size = p .perm .len; content = ([], permutation-passes _ n 0 π (p .perm)); spare = refl });
+      valid = solved modulus a n m start (omega arith) f (p .len) π (p .perm);
+    }

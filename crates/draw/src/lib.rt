@@ -1,0 +1,58 @@
+// Drawing from lent bytes, and key making. Each call measures first and writes then, so that bytes that run out leave the output as it was.
+use frames::kind::Kind;
+use frames::kind::alone;
+use frames::kind::size_of;
+use frames::kind::start_of;
+use frames::kind::within;
+use refusals::Refusal;
+ghost use mathlib.Core.Path.{_≡_};
+ghost use Prim.Native.Nat.{_≤_, _<_};
+ghost use Rattle.algebra.specs.Permutations.{longest};
+ghost use Rattle.frames.specs.Kinds.{within, alone};
+ghost use Rattle.frames.specs.Writing.{frameSize};
+ghost use Rattle.draw.specs.Telling.{refusal};
+
+pub mod choices;
+pub mod key;
+pub mod messages;
+pub mod permutation;
+pub mod sequence;
+
+// What a drawing answers: the random bytes used, skipped ones counted.
+pub enum Taken {
+    Bytes(usize),
+    Refused(Refusal),
+}
+
+// A refusal, as the answer of a drawing.
+fn refuse(number: u8, buffer: u8, place: usize) -> Taken
+    ensures { λ r. ⌜ r ≡ refusal number buffer place ⌝ }
+{
+    Taken::Refused(Refusal {
+        number: number,
+        buffer: buffer,
+        place: place,
+    })
+}
+
+// Whether n is 2 to 64.
+fn places_fit(n: usize) -> bool
+    ensures { λ r. ⌜ r ≡ within (alone .places) n ⌝ }
+{
+    within(alone().places, n)
+}
+
+// Whether N is 1 to 64.
+fn rounds_fit(rounds: usize) -> bool
+    ensures { λ r. ⌜ r ≡ within (alone .rounds) rounds ⌝ }
+{
+    within(alone().rounds, rounds)
+}
+
+// The bytes of a frame that has one number.
+fn frame_size(kind: Kind, number: usize) -> usize
+    requires { ⌜ number ≤ longest ⌝ }
+    ensures { λ r. ⌜ (r ≡ frameSize kind number 0) × (r < 70000) ⌝ }
+{
+    start_of(kind) + size_of(kind, number, 0)
+}

@@ -1,0 +1,112 @@
+// The register's messages: challenges and bits, as frames.
+use crate::Taken;
+use crate::frame_size;
+use crate::refuse;
+use crate::rounds_fit;
+use crate::sequence::measure_below;
+use crate::sequence::write_below;
+use algebra::LONGEST;
+use algebra::MODULUS;
+use algebra::draw::Used;
+use frames::bits::clear_unused;
+use frames::kind::Kind;
+use frames::kind::size_of;
+use frames::write::put_frame;
+use refusals::buffer::NONE;
+use refusals::buffer::OUTPUT;
+use refusals::buffer::RANDOM;
+use refusals::number::DRAW;
+use refusals::number::ROOM;
+use refusals::number::SHAPE;
+ghost use mathlib.Core.Path.{_≡_};
+ghost use Prim.Native.Nat.{_≤_, _<_};
+ghost use lib.ListN.{length};
+ghost use Rattle.algebra.specs.Permutations.{longest};
+ghost use Rattle.algebra.specs.Drawings.{drawnOver, Enough};
+ghost use Rattle.frames.specs.Kinds.{alone, within};
+ghost use Rattle.frames.specs.Clearing.{packedSize};
+ghost use Rattle.frames.specs.Writing.{frameSize};
+ghost use Rattle.draw.specs.Sequences.{someBelow, drawResidues};
+ghost use Rattle.draw.specs.Making.{drawChallenges, drawBits};
+ghost use Rattle.draw.specs.Telling.{bare, Draws};
+
+// Every byte is below this.
+const BYTES: u32 = 256;
+
+// Draws N challenges.
+pub fn draw_challenges(rounds: usize, random: &[u8], out: &mut [u8]) -> Taken
+    ensures { λ r. ⌜ Draws (bare (within (alone .rounds) rounds)) (frameSize Kind.Challenges rounds 0) (drawChallenges rounds (now (random .entry))) (now (random .entry)) (now (out .entry)) r (now (out .exit)) ⌝ }
+{
+    if !rounds_fit(rounds) {
+        return refuse(SHAPE, NONE, 0);
+    }
+    let need = frame_size(Kind::Challenges, rounds);
+    if out.len() < need {
+        return refuse(ROOM, OUTPUT, need);
+    }
+    match measure_below(MODULUS, rounds, random, 0) {
+        Used::RanOut => refuse(DRAW, RANDOM, random.len()),
+        Used::To(used) => {
+            write_challenges(rounds, random, out);
+            Taken::Bytes(used)
+        }
+    }
+}
+
+// Writes N challenges, for which the bytes suffice.
+fn write_challenges(rounds: usize, random: &[u8], out: &mut [u8])
+    requires { ⌜ Enough (drawResidues rounds (now random) 0) × (rounds ≤ longest) × (frameSize Kind.Challenges rounds 0 ≤ length (now out)) ⌝ }
+    ensures { λ _. ⌜ now (out .exit) ≡ drawnOver (drawChallenges rounds (now (random .entry))) (now (out .entry)) ⌝ }
+{
+    let mut room = [0u8; LONGEST];
+    write_challenges_with(rounds, random, out, &mut room);
+}
+
+// As write_challenges, with room for the residues.
+fn write_challenges_with(rounds: usize, random: &[u8], out: &mut [u8], room: &mut [u8])
+    requires { ⌜ Enough (drawResidues rounds (now random) 0) × (rounds ≤ longest) × (frameSize Kind.Challenges rounds 0 ≤ length (now out)) × (longest ≤ length (now room)) ⌝ }
+    ensures { λ _. ⌜ now (out .exit) ≡ drawnOver (drawChallenges rounds (now (random .entry))) (now (out .entry)) ⌝ }
+{
+    write_below(MODULUS, rounds, random, 0, room);
+    put_frame(Kind::Challenges, rounds, 0, &room[..rounds], out);
+}
+
+// Draws N bits.
+pub fn draw_bits(rounds: usize, random: &[u8], out: &mut [u8]) -> Taken
+    ensures { λ r. ⌜ Draws (bare (within (alone .rounds) rounds)) (frameSize Kind.Bits rounds 0) (drawBits rounds (now (random .entry))) (now (random .entry)) (now (out .entry)) r (now (out .exit)) ⌝ }
+{
+    if !rounds_fit(rounds) {
+        return refuse(SHAPE, NONE, 0);
+    }
+    let need = frame_size(Kind::Bits, rounds);
+    if out.len() < need {
+        return refuse(ROOM, OUTPUT, need);
+    }
+    match measure_below(BYTES, size_of(Kind::Bits, rounds, 0), random, 0) {
+        Used::RanOut => refuse(DRAW, RANDOM, random.len()),
+        Used::To(used) => {
+            write_bits(rounds, random, out);
+            Taken::Bytes(used)
+        }
+    }
+}
+
+// Writes N bits, for which the bytes suffice.
+fn write_bits(rounds: usize, random: &[u8], out: &mut [u8])
+    requires { ⌜ Enough (someBelow 256 (packedSize rounds) (now random) 0) × (0 < rounds) × (rounds ≤ longest) × (frameSize Kind.Bits rounds 0 ≤ length (now out)) ⌝ }
+    ensures { λ _. ⌜ now (out .exit) ≡ drawnOver (drawBits rounds (now (random .entry))) (now (out .entry)) ⌝ }
+{
+    let mut room = [0u8; LONGEST];
+    write_bits_with(rounds, random, out, &mut room);
+}
+
+// As write_bits, with room for the bytes.
+fn write_bits_with(rounds: usize, random: &[u8], out: &mut [u8], room: &mut [u8])
+    requires { ⌜ Enough (someBelow 256 (packedSize rounds) (now random) 0) × (0 < rounds) × (rounds ≤ longest) × (frameSize Kind.Bits rounds 0 ≤ length (now out)) × (longest ≤ length (now room)) ⌝ }
+    ensures { λ _. ⌜ now (out .exit) ≡ drawnOver (drawBits rounds (now (random .entry))) (now (out .entry)) ⌝ }
+{
+    let size = size_of(Kind::Bits, rounds, 0);
+    write_below(BYTES, size, random, 0, room);
+    clear_unused(rounds, room);
+    put_frame(Kind::Bits, rounds, 0, &room[..size], out);
+}

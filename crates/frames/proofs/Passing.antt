@@ -1,0 +1,81 @@
+-- What passes the checks: residues, permutations, and choices made of them.
+use mathlib.Core.Path.{_≡_, sym, ap, ap₂, _∙_}
+use mathlib.Core.Bool.{Bool}
+use mathlib.Core.List.{List, _++_}
+use Prim.Native.Nat.{ℕ, _+_, _-_, _*_, _<_}
+use native.Mathlib.Nat.{zero-mul}
+use native.Mathlib.Omega.{arith}
+use borrow.Author.Tests.{eq-eqb}
+use lib.ListN.{length, take, drop}
+use lib.Seq.{take-all, take-at, drop-at}
+use Rattle.refusals.specs.Number.{PERM}
+use Rattle.refusals.specs.Buffer.{CHOICES}
+use Rattle.refusals.specs.Told.{fine, first, demand}
+use Rattle.refusals.proofs.Chain.{below-fine}
+use Rattle.algebra.specs.Lists.{stretch}
+use Rattle.algebra.specs.Residues.{modulus, Residues}
+use Rattle.algebra.specs.Permutations.{isPerm, IsPerm}
+use Rattle.algebra.specs.Matrices.{SystemFits}
+use Rattle.algebra.proofs.Lists.{from-stretch}
+use Rattle.algebra.proofs.Permutations.{isPerm←}
+use Rattle.frames.specs.declared.kind.Kind.the-variants.{System}
+use Rattle.frames.specs.Kinds.{alone}
+use Rattle.frames.specs.Reading.{firstOf, secondOf, restOf, residueAt, values, permutationAt, permutations}
+use Rattle.frames.specs.Choosing.{choiceSize, choiceOf, vectorOf, permutationOf, choiceCheck, choiceAt, choicesCheck}
+use Rattle.frames.proofs.Facts.{FrameFits, first-within, second-within, rest-length}
+use Rattle.frames.proofs.Loops.{residue-fine}
+
+pub residues-pass : (b at : ℕ) (l : List ℕ) → Residues modulus l → values b at l ≡ fine
+unfolding values
+residues-pass b at l r = below-fine (length l) (residueAt b at l) (λ j h. residue-fine b at l j (r j h))
+
+-- a stretch that is all of a list
+whole : (n : ℕ) (l : List ℕ) → length l ≡ n → stretch n 0 l ≡ l
+whole n l e =
+    sym (from-stretch n 0 0 l (sym (zero-mul n)))
+    ∙ take-all (0 + n - 0) l (omega arith)
+
+pub permutation-passes : (b n at : ℕ) (l : List ℕ) → IsPerm n l → permutations b n at 1 l ≡ fine
+unfolding permutations
+permutation-passes b n at l h =
+    below-fine 1 (permutationAt b n at l)
+    (λ k i.
+    let z : k ≡ 0 = omega arith in
+    ap (λ (t : Bool). demand t PERM b (at + k * n))
+    (ap (λ (j : ℕ). isPerm n (stretch n j l)) z ∙ ap (isPerm n) (whole n l (h .len)) ∙ isPerm← n l h))
+
+-- ---- the choices
+
+-- the choices of one round, R and then σ, well formed
+pub record Chosen (n : ℕ) (choice : List ℕ) : Type 0 where
+  pub vector : List ℕ
+  pub permutation : List ℕ
+  pub both : choice ≡ vector ++ permutation
+  pub len : length vector ≡ n
+  pub residues : Residues modulus vector
+  pub perm : IsPerm n permutation
+
+choice-passes : (n at : ℕ) (choice : List ℕ) → Chosen n choice → choiceCheck n at choice ≡ fine
+unfolding choiceCheck vectorOf permutationOf
+choice-passes n at choice c =
+    let r : take n choice ≡ c .vector = ap (take n) (c .both) ∙ take-at (c .vector) (c .permutation) n (c .len) in
+    let s : take n (drop n choice) ≡ c .permutation =
+    ap (λ (l : List ℕ). take n (drop n l)) (c .both) ∙ ap (take n) (drop-at (c .vector) (c .permutation) n (c .len))
+    ∙ take-all n (c .permutation) (let p = c .perm .len in omega arith) in
+    ap₂ first (ap (values CHOICES at) r ∙ residues-pass CHOICES at (c .vector) (c .residues))
+    (ap (permutations CHOICES n (at + n) 1) s ∙ permutation-passes CHOICES n (at + n) (c .permutation) (c .perm))
+
+pub choices-pass : (n N : ℕ) (choices : List ℕ) → length choices ≡ N * choiceSize n → ((k : ℕ) → k < N → Chosen n (choiceOf choices n k))
+    → choicesCheck n N choices ≡ fine
+unfolding choicesCheck
+choices-pass n N choices e h =
+    rw (eq-eqb (length choices) (N * choiceSize n) e)
+    (below-fine N (choiceAt n choices) (λ k l. choice-passes n (k * choiceSize n) (choiceOf choices n k) (h k l)))
+
+-- ---- a system that is read fits the matrix
+
+pub system-fits : (s : List ℕ) → FrameFits System alone s → SystemFits (restOf System s) (firstOf s) (secondOf System s)
+system-fits s f =
+    let w = first-within System alone (firstOf s) (secondOf System s) (f .form .numbers) in
+    let v = second-within System alone (firstOf s) (secondOf System s) (f .form .numbers) in
+    record { some = omega arith; less = omega arith; most = omega arith; entries = rest-length System alone s (f .form) }
