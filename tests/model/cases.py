@@ -21,6 +21,7 @@ from pathlib import Path
 from random import Random
 from typing import NamedTuple
 
+from draw_cases import DRAW_CALLS
 from frame_cases import FRAME_CALLS
 from hash_cases import HASH_CALLS
 from making import Given
@@ -30,7 +31,7 @@ from stand_in_cases import STAND_IN_CALLS
 REPLAY = Path(__file__).resolve().parents[2] / "crates" / "replay"
 SHOWN_WHOLE = 40
 
-CALLS = [*FRAME_CALLS, *HASH_CALLS, *STAND_IN_CALLS]
+CALLS = [*FRAME_CALLS, *HASH_CALLS, *STAND_IN_CALLS, *DRAW_CALLS]
 """The number of a call in a case is its place here, from 1."""
 
 

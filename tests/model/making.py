@@ -66,9 +66,10 @@ def absurd(numbers):
     return [*alike, 2**63, LARGEST]
 
 
-def every_damage(damages, make):
-    """What make gives for every set of damages, so that each two that can be told stand against each other."""
-    for count in range(len(damages) + 1):
+def every_damage(damages, make, at_once=None):
+    """What make gives for every set of damages, or of so many at once, so that each two that can be told stand against each other."""
+    most = len(damages) if at_once is None else at_once
+    for count in range(most + 1):
         for chosen in combinations(damages, count):
             yield make(chosen)
 

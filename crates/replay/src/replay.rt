@@ -6,8 +6,15 @@ use crate::tell::tell_bytes;
 use crate::tell::tell_checked;
 use crate::tell::tell_number;
 use crate::tell::tell_read;
+use crate::tell::tell_taken;
 use crate::tell::tell_written;
 use algebra::output::copy_into;
+use draw::Taken;
+use draw::choices::draw_choices;
+use draw::key::make_key;
+use draw::messages::draw_bits;
+use draw::messages::draw_challenges;
+use draw::permutation::draw_permutation;
 use frames::opening::check_opening;
 use frames::opening::opening;
 use frames::read::Read;
@@ -102,6 +109,26 @@ fn replay_stand_in(case: &[u8], out: &mut [u8]) {
     tell_bytes(out);
 }
 
+fn draw(call: u8, a: usize, b: usize, random: &[u8], out: &mut [u8]) -> Taken {
+    match call {
+        20 => draw_permutation(a, random, out),
+        21 => draw_challenges(a, random, out),
+        22 => draw_bits(a, random, out),
+        _ => draw_choices(a, b, random, out),
+    }
+}
+
+fn replay_draw(call: u8, case: &[u8], out: &mut [u8]) {
+    let random = buffer_of(case, 0);
+    tell_taken(draw(call, number_of(case, 0), number_of(case, 1), random, out));
+    tell_bytes(out);
+}
+
+fn replay_key(case: &[u8], out: &mut [u8]) {
+    tell_taken(make_key(buffer_of(case, 0), buffer_of(case, 1), out));
+    tell_bytes(out);
+}
+
 fn replay_call(call: u8, case: &[u8], room: &mut [u8]) {
     match call {
         1..=8 => tell_read(read(call, buffer_of(case, 0))),
@@ -114,6 +141,14 @@ fn replay_call(call: u8, case: &[u8], room: &mut [u8]) {
         19 => {
             let lent = lay(buffer_of(case, 3), room);
             replay_stand_in(case, &mut room[..lent]);
+        }
+        20..=23 => {
+            let lent = lay(buffer_of(case, 1), room);
+            replay_draw(call, case, &mut room[..lent]);
+        }
+        24 => {
+            let lent = lay(buffer_of(case, 2), room);
+            replay_key(case, &mut room[..lent]);
         }
         _ => {}
     }

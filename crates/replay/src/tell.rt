@@ -1,4 +1,5 @@
 // The words of a line.
+use draw::Taken;
 use frames::read::Read;
 use frames::wide;
 use frames::write::Written;
@@ -51,6 +52,16 @@ pub fn tell_written(answer: Written) {
             tell_number(count);
         }
         Written::Refused(x) => tell_refusal(x),
+    }
+}
+
+pub fn tell_taken(answer: Taken) {
+    match answer {
+        Taken::Bytes(used) => {
+            tell_done();
+            tell_number(used);
+        }
+        Taken::Refused(x) => tell_refusal(x),
     }
 }
 
