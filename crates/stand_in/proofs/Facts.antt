@@ -20,20 +20,15 @@ use Rattle.frames.specs.declared.read.Read.the-variants.{Frame}
 use Rattle.frames.specs.Kinds.{alone}
 use Rattle.frames.specs.Reading.{firstOf, secondOf, restOf, reading, readMeans, Reads}
 use Rattle.frames.specs.Choosing.{vectorOf, permutationOf, choicesCheck}
-use Rattle.frames.proofs.Facts.{test-holds, rest-done, first-within, second-within, Shaped, rest-length, reading-told}
+use Rattle.frames.proofs.Facts.{test-holds, rest-done, first-within, Shaped, rest-length, FrameFits, reading-told}
 use Rattle.frames.proofs.Orders.{rest-part}
+use Rattle.frames.proofs.Passing.{system-fits}
 use Rattle.round.specs.Round.{systemOf, pair, WellFormed, standIn}
 use Rattle.stand_in.specs.Standing.{ofPlaces, lentCheck, standInOf}
 use Rattle.stand_in.proofs.Choices.{one-choice-told}
 
-pub system-shaped : (s : List ℕ) (r : Read) (x y z : ℕ) → Reads System alone s r → r ≡ Frame x y z → Shaped System alone s
-system-shaped s r x y z m e = reading-told System alone s _ (sym (m .says) ∙ ap readMeans e) .0 .form
-
-pub system-fits : (s : List ℕ) → Shaped System alone s → SystemFits (restOf System s) (firstOf s) (secondOf System s)
-system-fits s h =
-    let p = first-within System alone (firstOf s) (secondOf System s) (h .numbers) in
-    let q = second-within System alone (firstOf s) (secondOf System s) (h .numbers) in
-    record { some = omega arith; less = omega arith; most = omega arith; entries = rest-length System alone s h }
+pub system-read : (s : List ℕ) (r : Read) (x y z : ℕ) → Reads System alone s r → r ≡ Frame x y z → FrameFits System alone s
+system-read s r x y z m e = reading-told System alone s _ (sym (m .says) ∙ ap readMeans e) .0
 
 -- a key of n places
 key-fits : (n : ℕ) (s : List ℕ) → Shaped Public (ofPlaces n) s → length (restOf Public s) ≡ n
@@ -65,14 +60,14 @@ lent-told c bit system key lent v e =
     let e2 = rest-done t1 SHAPE NONE 0 r2 v e in
     let a = first-done (reading System alone system) r4 v (rest-done t2 SHAPE NONE 0 r3 v e2) in
     let b = first-done (reading Public (ofPlaces n) key) r5 v (a .1) in
-    let s = reading-told System alone system (a .0 .0) (a .0 .1) .0 .form in
+    let s = reading-told System alone system (a .0 .0) (a .0 .1) .0 in
     let k = reading-told Public (ofPlaces n) key (b .0 .0) (b .0 .1) .0 .form in
     let x = one-choice-told n lent v (b .1) in
     let z = x .0 in
     record {
       challenge = ltb-true _ _ (test-holds t1 SHAPE NONE 0 r2 v e);
       oneBit = ltb-true _ _ (test-holds t2 SHAPE NONE 0 r3 v e2);
-      systemThere = s .there;
+      systemThere = s .form .there;
       systemFits = system-fits system s;
       keyThere = k .there;
       keyFits = key-fits n key k;

@@ -7,20 +7,21 @@ use Rattle.algebra.specs.Permutations.{longest}
 use Rattle.stand_in.specs.Standing.{ofPlaces}
 use Rattle.frames.specs.Kinds.{alone}
 use Rattle.frames.specs.Reading.{firstOf, Reads}
-use Rattle.frames.proofs.Facts.{Shaped}
+use Rattle.frames.proofs.Facts.{FrameFits}
+use Rattle.frames.proofs.Passing.{system-fits}
 use Rattle.stand_in.proofs.Orders.{bad-challenge, bad-bit, bad-system, bad-key, choices-decide}
-use Rattle.stand_in.proofs.Facts.{system-shaped, system-fits}
+use Rattle.stand_in.proofs.Facts.{system-read}
 use Rattle.frames.specs.declared.kind.Kind.the-variants.{System, Public}
 use Rattle.stand_in.proofs.check_lent.Statement.{statement}
 use Rattle.stand_in.proofs.check_lent.Tie as tie
 
 -- past the system's frame
-shaped : (c : tie.After-enum-told) → Shaped System alone (c .before .before .before .before .before .before .before .before .args .system .now)
-shaped c = system-shaped _ _ _ _ _ (c .before .before .read-system .ensures) (c .enum-told .given .1)
+system-fine : (c : tie.After-enum-told) → FrameFits System alone (c .before .before .before .before .before .before .before .before .args .system .now)
+system-fine c = system-read _ _ _ _ _ (c .before .before .read-system .ensures) (c .enum-told .given .1)
 
 -- n is at most 64
 n-fits : (c : tie.After-wide) → c .wide .result ≤ longest
-n-fits c = let m = system-fits _ (shaped (c .before .before)) .most in omega (arith, c .wide .ensures .0)
+n-fits c = let m = system-fits _ (system-fine (c .before .before)) .most in omega (arith, c .wide .ensures .0)
 
 -- the key is asked to have the system's n
 key-read : (c : tie.After-read-frame) → Reads Public (ofPlaces (firstOf (c .before .before .before .before .before .before .before .before .before .before .before .before .args .system .now))) (c .before .before .before .before .before .before .before .before .before .before .before .before .args .key .now) (c .read-frame .result)
@@ -54,7 +55,7 @@ enum-told : tie.Need-enum-told
 enum-told c = search needs
 
 shared-slice-read-wide : tie.Need-shared-slice-read-wide
-shared-slice-read-wide c = let t = shaped (c .before) .there in omega arith
+shared-slice-read-wide c = let t = system-fine (c .before) .form .there in omega arith
 
 wide-requires : tie.Need-wide-requires
 wide-requires c κs = search needs
