@@ -12,7 +12,7 @@ use Rattle.algebra.specs.Lists.{tab, sumBelow, over}
 use Rattle.algebra.specs.Residues.{Residues, negative}
 use Rattle.algebra.specs.Permutations.{IsPerm, unpermute}
 use Rattle.algebra.specs.Matrices.{rowTimes, rowOf, product, keyFault, SystemFits}
-use Rattle.algebra.specs.Solving.{completed}
+use Rattle.algebra.specs.Solving.{lastEntry, completed}
 use Rattle.algebra.proofs.Lists.{same-list, length-tab, getD-tab, over-more}
 use Rattle.algebra.proofs.Sums.{sum-cong, cong-add}
 use Rattle.algebra.proofs.Permutations.{inverse-perm, permute-unpermute}
@@ -27,9 +27,8 @@ same-row p row x y i h e =
     ap₂ (λ (s t : ℕ). (s + t) % p) (sum-cong (length row) _ _ (λ j l. ap (λ (z : ℕ). getD row j 0 * z) (h j l))) e
 
 module _ (p : ℕ) (a : List ℕ) (n m : ℕ) (start : List ℕ) where
-  -- the entries worked out
-  abbrev pub last : ℕ → ℕ
-  last i = negative p (rowTimes p (rowOf a n m i) start i)
+  abbrev last : ℕ → ℕ
+  last = lastEntry p a n m start
 
   pub length-completed : length start ≡ n - m → m < n → length (completed p a n m start) ≡ n
   unfolding completed
@@ -99,7 +98,7 @@ module _ (p : ℕ) (a : List ℕ) (n m : ℕ) (d : List ℕ) where
 
   pub record Completing (x : List ℕ) (i : ℕ) : Type 0 where
     pub size : length x ≡ length d
-    pub now : x ≡ over (take (n - m) d ++ tab i (last p a n m (take (n - m) d))) d
+    pub now : x ≡ over (take (n - m) d ++ tab i (lastEntry p a n m (take (n - m) d))) d
 
   pub completing-none : n ≤ length d → Completing d 0
   unfolding over tab
@@ -112,14 +111,14 @@ module _ (p : ℕ) (a : List ℕ) (n m : ℕ) (d : List ℕ) where
 
   module _ (fits : SystemFits a n m) (room : n ≤ length d) (x : List ℕ) (i : ℕ) (c : Completing x i) (l : i < m) where
     some : List ℕ
-    some = known ++ tab i (last p a n m known)
+    some = known ++ tab i (lastEntry p a n m known)
 
     length-some : length some ≡ n - m + i
     unfolding some
     length-some =
-        let t = length-tab i (last p a n m known) in
+        let t = length-tab i (lastEntry p a n m known) in
         let k = length-take-le (n - m) d (omega arith) in
-        omega (arith, length-append known (tab i (last p a n m known)))
+        omega (arith, length-append known (tab i (lastEntry p a n m known)))
 
     pub completing-row : rowTimes p (rowOf a n m i) (take n (set x (n - m + i) 0)) i ≡ rowTimes p (rowOf a n m i) known i
     unfolding some over
@@ -135,13 +134,13 @@ module _ (p : ℕ) (a : List ℕ) (n m : ℕ) (d : List ℕ) where
         ∙ getD-set-other x (n - m + i) j 0 0 (λ e. omega arith)
         ∙ ap (λ (y : List ℕ). getD y j 0) (c .now)
         ∙ List·getD-append some (drop (length some) d) 0 j (omega arith)
-        ∙ List·getD-append known (tab i (last p a n m known)) 0 j (omega arith))
+        ∙ List·getD-append known (tab i (lastEntry p a n m known)) 0 j (omega arith))
         (ap (λ (y : ℕ). getD (take n (set x (n - m + i) 0)) (y + i) 0) r
         ∙ getD-take n (set x (n - m + i) 0) (n - m + i) 0 (omega arith)
         ∙ getD-set-same x (n - m + i) 0 0 (omega arith)
         ∙ sym (List·getD-eq-default known 0 (omega arith)))
 
-    pub completing-more : (y : ℕ) → y ≡ last p a n m known i → Completing (set (set x (n - m + i) 0) (n - m + i) y) (i + 1)
+    pub completing-more : (y : ℕ) → y ≡ lastEntry p a n m known i → Completing (set (set x (n - m + i) 0) (n - m + i) y) (i + 1)
     unfolding tab some
     completing-more y e =
         let less = fits .less in
@@ -150,9 +149,9 @@ module _ (p : ℕ) (a : List ℕ) (n m : ℕ) (d : List ℕ) where
           now = set-set x (n - m + i) 0 y
               ∙ ap (λ (z : List ℕ). set z (n - m + i) y) (c .now)
               ∙ over-more some d (n - m + i) y length-some (omega arith)
-              ∙ ap (λ (z : List ℕ). over z d) (append-assoc known (tab i (last p a n m known)) (y ∷ []) ∙ rw (add-one, e));
+              ∙ ap (λ (z : List ℕ). over z d) (append-assoc known (tab i (lastEntry p a n m known)) (y ∷ []) ∙ rw (add-one, e));
         }
 
   pub completing-all : (x : List ℕ) (i : ℕ) → Completing x i → i ≡ m → x ≡ over (completed p a n m (take (n - m) d)) d
   unfolding completed
-  completing-all x i c e = c .now ∙ ap (λ (k : ℕ). over (known ++ tab k (last p a n m known)) d) e
+  completing-all x i c e = c .now ∙ ap (λ (k : ℕ). over (known ++ tab k (lastEntry p a n m known)) d) e

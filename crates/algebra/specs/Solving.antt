@@ -5,6 +5,9 @@ use Rattle.algebra.specs.Lists.{tab}
 use Rattle.algebra.specs.Residues.{negative}
 use Rattle.algebra.specs.Matrices.{rowTimes, rowOf}
 
--- entry n - m + i is the negative of row i's sum over the entries before; as these have no entry n - m + i, that is the row of A times them
+-- entry n - m + i: the negative of row i's sum over the entries before. As these have no entry n - m + i, that is the row of A times them
+abbrev pub lastEntry : ℕ → List ℕ → ℕ → ℕ → List ℕ → ℕ → ℕ
+lastEntry p a n m start i = negative p (rowTimes p (rowOf a n m i) start i)
+
 unfoldable pub completed : ℕ → List ℕ → ℕ → ℕ → List ℕ → List ℕ
-completed p a n m start = start ++ tab m (λ (i : ℕ). negative p (rowTimes p (rowOf a n m i) start i))
+completed p a n m start = start ++ tab m (lastEntry p a n m start)
