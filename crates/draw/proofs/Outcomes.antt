@@ -1,14 +1,22 @@
 -- For each call: no second outcome fits what it promises, and a refused call changes nothing. One record serves them all.
 use mathlib.Core.Path.{_≡_, refl, sym, ap, _∙_}
-use mathlib.Core.List.{List}
+use mathlib.Core.List.{List, [], _∷_}
 use Prim.Native.Nat.{ℕ}
-use lib.ListN.{getD}
+use native.Mathlib.Omega.{arith}
+use lib.Dec.{leb}
+use lib.ListN.{length, getD}
 use Rattle.refusals.specs.declared.Refusal.{Refusal}
-use Rattle.refusals.specs.Told.{Told, done, refused}
-use Rattle.algebra.specs.Drawings.{Drawing}
+use Rattle.refusals.specs.Number.{ROOM}
+use Rattle.refusals.specs.Buffer.{OUTPUT}
+use Rattle.refusals.specs.Told.{Told, done, refused, first, demand}
+use Rattle.refusals.proofs.Chain.{first-done}
+use Rattle.algebra.specs.Lists.{over}
+use Rattle.algebra.specs.Drawings.{Drawing, drew, ranOut}
+use Rattle.algebra.specs.declared.draw.Used.{Used}
+use Rattle.algebra.specs.declared.draw.Used.the-variants.{To, RanOut}
 use Rattle.draw.specs.declared.Taken.{Taken}
 use Rattle.draw.specs.declared.Taken.the-variants.{Bytes, Refused}
-use Rattle.draw.specs.Telling.{takenMeans, outAfter, Draws}
+use Rattle.draw.specs.Telling.{takenMeans, telling, usedTold, outAfter, Draws}
 
 taker : Told → Taken
 taker (done v) = Bytes (getD v 0 0)
@@ -27,3 +35,17 @@ module _ (numbers : Told) (need : ℕ) (drawing : Drawing) (random out : List �
 
   pub refused-draws-nothing : (r : Refusal) (after : List ℕ) → Draws numbers need drawing random out (Refused r) after → after ≡ out
   refused-draws-nothing r after p = p .writes
+
+-- a success: the bytes used are those that the definition consumes, and what it draws stands over the output's front
+module _ (numbers : Told) (need : ℕ) (random out : List ℕ) (used : ℕ) (after : List ℕ) where
+  told-used : (u : Used) → done (used ∷ []) ≡ telling numbers need (length out) u (length random) → usedTold u (length random) ≡ done (used ∷ [])
+  unfolding telling
+  told-used u e =
+      let room = demand (leb need (length out)) ROOM OUTPUT need in
+      let rest = usedTold u (length random) in
+      first-done room rest (used ∷ []) (first-done numbers (first room rest) (used ∷ []) (sym e) .1) .1
+
+  pub taken-drew : (drawing : Drawing) → Draws numbers need drawing random out (Bytes used) after
+      → (s : List ℕ) × (drawing ≡ drew s used) × (after ≡ over s out)
+  taken-drew (drew s p) d = let e = told-used (To p) (d .says) in let q : p ≡ used = cc in (s, ap (drew s) q, d .writes)
+  taken-drew ranOut d = let e = told-used RanOut (d .says) in let z : _≡_ {A = ℕ} 0 1 = cc in absurd (omega arith)

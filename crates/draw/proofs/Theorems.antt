@@ -32,7 +32,7 @@ use Rattle.frames.proofs.Clearing.{length-cleared, cleared-keeps, cleared-clear
 use Rattle.frames.proofs.Passing.{residues-pass, permutation-passes, Chosen, choices-pass}
 use Rattle.frames.proofs.Spelling.{frame-spells, written-read}
 use Rattle.frames.proofs.Writing.{Plain}
-use Rattle.draw.specs.Sequences.{made, andThen, someBelow, drawResidues, oneBelow, times}
+use Rattle.draw.specs.Sequences.{made, andThen, someBelow, byteLimit, drawResidues, oneBelow, times}
 use Rattle.draw.specs.Making.{drawChallenges, drawBits, drawChoice, drawChoices, publicKey, keyFrames, drawPair, drawKey}
 use Rattle.draw.proofs.Sequences.{Always, Stretches, times-each, one-got, some-below}
 use Rattle.draw.proofs.Making.{choice-chosen, place-fits, Pair, pair-drawn, length-publicKey}
@@ -89,16 +89,16 @@ challenges-drawn N random s next t e =
 -- bits are read as the first N bits of the bytes drawn, highest first
 pub record BitsDrawn (N : ℕ) (random s : List ℕ) (next : ℕ) : Type 0 where
   pub bytes : List ℕ
-  pub drawn : someBelow 256 (packedSize N) random 0 ≡ drew bytes next
+  pub drawn : someBelow byteLimit (packedSize N) random 0 ≡ drew bytes next
   pub frame : Accepted Bits N (cleared N bytes) s
   pub bits : valuesOf Bits N 0 (restOf Bits s) ≡ tab N (λ (k : ℕ). cond (bitAt bytes k) 1 0) ∷ []
 
 pub bits-drawn : (N : ℕ) (random s : List ℕ) (next : ℕ) → within (alone .rounds) N ≡ true → drawBits N random ≡ drew s next → BitsDrawn N random s next
 unfolding drawBits
 bits-drawn N random s next t e =
-    let q = source (λ (l : List ℕ). frame Bits N 0 (cleared N l)) (someBelow 256 (packedSize N) random 0) s next e in
+    let q = source (λ (l : List ℕ). frame Bits N 0 (cleared N l)) (someBelow byteLimit (packedSize N) random 0) s next e in
     let l = q .list in
-    let z = subst (Always (λ (l : List ℕ). (length l ≡ packedSize N) × Residues 256 l)) (q .drawn) (some-below 256 random (packedSize N) 0) .0 in
+    let z = subst (Always (λ (l : List ℕ). (length l ≡ packedSize N) × Residues byteLimit l)) (q .drawn) (some-below byteLimit random (packedSize N) 0) .0 in
     let w = within-told (alone .rounds) N t in
     let a =
     accepted Bits N (cleared N l)
@@ -114,12 +114,12 @@ bits-drawn N random s next t e =
     }
 
 -- bytes are never skipped: the first n are drawn as they come
-pub bytes-drawn : (random : List ℕ) → Bytes random → (n : ℕ) → n ≤ length random → someBelow 256 n random 0 ≡ drew (take n random) n
+pub bytes-drawn : (random : List ℕ) → Bytes random → (n : ℕ) → n ≤ length random → someBelow byteLimit n random 0 ≡ drew (take n random) n
 unfolding times
 bytes-drawn random b zero h = refl
 bytes-drawn random b (suc n) h =
-    ap (λ (d : Drawing). andThen d (oneBelow 256 random)) (bytes-drawn random b n (omega arith))
-    ∙ ap (made (λ (m : List ℕ). take n random ++ m)) (one-got 256 random n _ _ (sym (drawn-at 256 random n h (b n))))
+    ap (λ (d : Drawing). andThen d (oneBelow byteLimit random)) (bytes-drawn random b n (omega arith))
+    ∙ ap (made (λ (m : List ℕ). take n random ++ m)) (one-got byteLimit random n _ _ (sym (drawn-at byteLimit random n h (b n))))
     ∙ rw (add-one, ← take-suc random n 0 h)
 
 -- ---- choices pass their check

@@ -10,15 +10,15 @@ use Rattle.frames.specs.declared.kind.Kind.the-variants.{System, Public, Secret
 use Rattle.frames.specs.Clearing.{packedSize, cleared}
 use Rattle.frames.specs.Reading.{firstOf, secondOf, restOf}
 use Rattle.frames.specs.Writing.{frame}
-use Rattle.draw.specs.Sequences.{made, andThen, times, someBelow, drawResidues}
+use Rattle.draw.specs.Sequences.{made, andThen, times, someBelow, byteLimit, drawResidues}
 
 -- challenges: N residues, as kind 5
 unfoldable pub drawChallenges : ℕ → List ℕ → Drawing
 drawChallenges N random = made (frame Challenges N 0) (drawResidues N random 0)
 
--- bits: ceil(N/8) bytes, unused low bits cleared, as kind 7. Every byte is below 256: none is skipped
+-- bits: ceil(N/8) bytes, unused low bits cleared, as kind 7; no byte is skipped
 unfoldable pub drawBits : ℕ → List ℕ → Drawing
-drawBits N random = made (λ (bytes : List ℕ). frame Bits N 0 (cleared N bytes)) (someBelow 256 (packedSize N) random 0)
+drawBits N random = made (λ (bytes : List ℕ). frame Bits N 0 (cleared N bytes)) (someBelow byteLimit (packedSize N) random 0)
 
 -- the choices of one round: R, then σ
 unfoldable pub drawChoice : ℕ → List ℕ → ℕ → Drawing

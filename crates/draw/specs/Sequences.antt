@@ -32,6 +32,10 @@ oneBelow limit random at = with (drawBelow limit random at) (λ (x next : ℕ). 
 abbrev pub someBelow : ℕ → ℕ → List ℕ → ℕ → Drawing
 someBelow limit n random at = times n (oneBelow limit random) at
 
+-- every byte is below this
+abbrev pub byteLimit : ℕ
+byteLimit = 256
+
 -- n residues
 abbrev pub drawResidues : ℕ → List ℕ → ℕ → Drawing
 drawResidues n random at = someBelow modulus n random at

@@ -26,12 +26,12 @@ ghost use Rattle.algebra.specs.Drawings.{drawnOver, Enough};
 ghost use Rattle.frames.specs.Kinds.{alone, within};
 ghost use Rattle.frames.specs.Clearing.{packedSize};
 ghost use Rattle.frames.specs.Writing.{frameSize};
-ghost use Rattle.draw.specs.Sequences.{someBelow, drawResidues};
+ghost use Rattle.draw.specs.Sequences.{someBelow, byteLimit, drawResidues};
 ghost use Rattle.draw.specs.Making.{drawChallenges, drawBits};
 ghost use Rattle.draw.specs.Telling.{bare, Draws};
 
 // Every byte is below this.
-const BYTES: u32 = 256;
+const BYTE_LIMIT: u32 = 256;
 
 // Draws N challenges.
 pub fn draw_challenges(rounds: usize, random: &[u8], out: &mut [u8]) -> Taken
@@ -82,7 +82,7 @@ pub fn draw_bits(rounds: usize, random: &[u8], out: &mut [u8]) -> Taken
     if out.len() < need {
         return refuse(ROOM, OUTPUT, need);
     }
-    match measure_below(BYTES, size_of(Kind::Bits, rounds, 0), random, 0) {
+    match measure_below(BYTE_LIMIT, size_of(Kind::Bits, rounds, 0), random, 0) {
         Used::RanOut => refuse(DRAW, RANDOM, random.len()),
         Used::To(used) => {
             write_bits(rounds, random, out);
@@ -93,7 +93,7 @@ pub fn draw_bits(rounds: usize, random: &[u8], out: &mut [u8]) -> Taken
 
 // Writes N bits, for which the bytes suffice.
 fn write_bits(rounds: usize, random: &[u8], out: &mut [u8])
-    requires { ⌜ Enough (someBelow 256 (packedSize rounds) (now random) 0) × (0 < rounds) × (rounds ≤ longest) × (frameSize Kind.Bits rounds 0 ≤ length (now out)) ⌝ }
+    requires { ⌜ Enough (someBelow byteLimit (packedSize rounds) (now random) 0) × (0 < rounds) × (rounds ≤ longest) × (frameSize Kind.Bits rounds 0 ≤ length (now out)) ⌝ }
     ensures { λ _. ⌜ now (out .exit) ≡ drawnOver (drawBits rounds (now (random .entry))) (now (out .entry)) ⌝ }
 {
     let mut room = [0u8; LONGEST];
@@ -102,11 +102,11 @@ fn write_bits(rounds: usize, random: &[u8], out: &mut [u8])
 
 // As write_bits, with room for the bytes.
 fn write_bits_with(rounds: usize, random: &[u8], out: &mut [u8], room: &mut [u8])
-    requires { ⌜ Enough (someBelow 256 (packedSize rounds) (now random) 0) × (0 < rounds) × (rounds ≤ longest) × (frameSize Kind.Bits rounds 0 ≤ length (now out)) × (longest ≤ length (now room)) ⌝ }
+    requires { ⌜ Enough (someBelow byteLimit (packedSize rounds) (now random) 0) × (0 < rounds) × (rounds ≤ longest) × (frameSize Kind.Bits rounds 0 ≤ length (now out)) × (longest ≤ length (now room)) ⌝ }
     ensures { λ _. ⌜ now (out .exit) ≡ drawnOver (drawBits rounds (now (random .entry))) (now (out .entry)) ⌝ }
 {
     let size = size_of(Kind::Bits, rounds, 0);
-    write_below(BYTES, size, random, 0, room);
+    write_below(BYTE_LIMIT, size, random, 0, room);
     clear_unused(rounds, room);
     put_frame(Kind::Bits, rounds, 0, &room[..size], out);
 }

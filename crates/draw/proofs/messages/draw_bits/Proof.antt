@@ -15,7 +15,7 @@ use Rattle.frames.specs.Writing.{frame}
 use Rattle.draw.specs.Telling.{refusal}
 use Rattle.frames.proofs.Facts.{within-told}
 use Rattle.draw.specs.Making.{drawBits}
-use Rattle.draw.specs.Sequences.{someBelow}
+use Rattle.draw.specs.Sequences.{someBelow, byteLimit}
 use Rattle.draw.proofs.Orders.{bad-numbers, no-room, good-numbers, runs-out, takes}
 use Rattle.draw.proofs.Sequences.{made-used}
 use Rattle.frames.specs.declared.kind.Kind.the-variants.{Bits}
@@ -69,7 +69,7 @@ write-bits-requires c κs =
     let g = c .before .before .before .before .before .before .before .before .before .before .before .before .args in
     let w = within-told (alone .rounds) (g .rounds) (sym (c .before .before .before .before .before .before .before .before .before .rounds-fit .ensures) ∙ not-false _ (c .before .before .before .before .before .before .before .before .if1 .left)) in
     let s = c .before .before .before .before .before .before .before .frame-size .ensures .0 in
-    (enough-of (someBelow 256 (packedSize (g .rounds)) (g .random .now) 0) _ (sym (c .before .before .used .given .1) ∙ c .before .before .before .before .measure-below .ensures ∙ ap (λ (k : ℕ). usedBy (someBelow 256 k (g .random .now) 0)) (c .before .before .before .before .before .size-of .ensures .0)), omega arith, omega arith, omega arith)
+    (enough-of (someBelow byteLimit (packedSize (g .rounds)) (g .random .now) 0) _ (sym (c .before .before .used .given .1) ∙ c .before .before .before .before .measure-below .ensures ∙ ap (λ (k : ℕ). usedBy (someBelow byteLimit k (g .random .now) 0)) (c .before .before .before .before .before .size-of .ensures .0)), omega arith, omega arith, omega arith)
 
 returns-3 : tie.Need-returns-3
 unfolding drawBits
@@ -77,7 +77,7 @@ returns-3 c =
     let g = c .before .before .before .before .before .before .before .before .before .before .before .args in
     let s = c .before .before .before .before .before .before .frame-size .ensures .0 in
     runs-out _ _ _ _ _ [] (good-numbers (within (alone .rounds) (g .rounds)) (sym (c .before .before .before .before .before .before .before .before .rounds-fit .ensures) ∙ not-false _ (c .before .before .before .before .before .before .before .if1 .left))) (omega arith)
-    (sym (c .before .enum-told .given .1) ∙ c .before .before .before .measure-below .ensures ∙ ap (λ (k : ℕ). usedBy (someBelow 256 k (g .random .now) 0)) (c .before .before .before .before .size-of .ensures .0) ∙ sym (made-used (λ (l : List ℕ). frame Bits (g .rounds) 0 (cleared (g .rounds) l)) (someBelow 256 (packedSize (g .rounds)) (g .random .now) 0))) (c .refuse3 .ensures)
+    (sym (c .before .enum-told .given .1) ∙ c .before .before .before .measure-below .ensures ∙ ap (λ (k : ℕ). usedBy (someBelow byteLimit k (g .random .now) 0)) (c .before .before .before .before .size-of .ensures .0) ∙ sym (made-used (λ (l : List ℕ). frame Bits (g .rounds) 0 (cleared (g .rounds) l)) (someBelow byteLimit (packedSize (g .rounds)) (g .random .now) 0))) (c .refuse3 .ensures)
 
 same-length : tie.Need-same-length
 same-length c = search needs
@@ -88,7 +88,7 @@ returns-4 c =
     let g = c .before .before .before .before .before .before .before .before .before .before .before .before .before .before .before .args in
     let s = c .before .before .before .before .before .before .before .before .before .before .frame-size .ensures .0 in
     takes _ _ _ _ _ [] (good-numbers (within (alone .rounds) (g .rounds)) (sym (c .before .before .before .before .before .before .before .before .before .before .before .before .rounds-fit .ensures) ∙ not-false _ (c .before .before .before .before .before .before .before .before .before .before .before .if1 .left))) (omega arith)
-    (sym (c .before .before .before .before .before .used .given .1) ∙ c .before .before .before .before .before .before .before .measure-below .ensures ∙ ap (λ (k : ℕ). usedBy (someBelow 256 k (g .random .now) 0)) (c .before .before .before .before .before .before .before .before .size-of .ensures .0) ∙ sym (made-used (λ (l : List ℕ). frame Bits (g .rounds) 0 (cleared (g .rounds) l)) (someBelow 256 (packedSize (g .rounds)) (g .random .now) 0))) (c .before .before .write-bits .ensures)
+    (sym (c .before .before .before .before .before .used .given .1) ∙ c .before .before .before .before .before .before .before .measure-below .ensures ∙ ap (λ (k : ℕ). usedBy (someBelow byteLimit k (g .random .now) 0)) (c .before .before .before .before .before .before .before .before .size-of .ensures .0) ∙ sym (made-used (λ (l : List ℕ). frame Bits (g .rounds) 0 (cleared (g .rounds) l)) (someBelow byteLimit (packedSize (g .rounds)) (g .random .now) 0))) (c .before .before .write-bits .ensures)
 
 pub draw-bits-spec : {M : Type 1} → statement M
 draw-bits-spec =

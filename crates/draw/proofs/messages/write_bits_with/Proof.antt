@@ -14,7 +14,7 @@ use Rattle.frames.specs.Clearing.{packedSize, cleared}
 use Rattle.frames.specs.Writing.{frame}
 use Rattle.frames.proofs.Clearing.{length-cleared}
 use Rattle.draw.specs.Making.{drawBits}
-use Rattle.draw.specs.Sequences.{made, someBelow}
+use Rattle.draw.specs.Sequences.{made, someBelow, byteLimit}
 use Rattle.draw.proofs.Sequences.{drew-of, Always, some-below}
 use Rattle.frames.specs.declared.kind.Kind.the-variants.{Bits}
 use Rattle.draw.proofs.messages.write_bits_with.Statement.{statement}
@@ -60,10 +60,10 @@ returns c =
     let w = c .before .before .before .before .before .before .before .before .before .before .before .write-below in
     let u = c .before .before .before .before .before .before .before .clear-unused in
     let room = w .last .1 .1 .1 .1 .0 in
-    let d = someBelow 256 (packedSize n) random 0 in
+    let d = someBelow byteLimit (packedSize n) random 0 in
     let q = rw (s .ensures .0) at (w .ensures) in
     let a = drew-of d (w .result) (q .0) in
-    let e = subst (Always (λ (l : List ℕ). (length l ≡ packedSize n) × Residues 256 l)) (a .1) (some-below 256 random (packedSize n) 0) .0 in
+    let e = subst (Always (λ (l : List ℕ). (length l ≡ packedSize n) × Residues byteLimit l)) (a .1) (some-below byteLimit random (packedSize n) 0) .0 in
     let r = front (a .0) (g .room .now) room (packedSize n) e (q .1 ∙ ap (λ (z : Drawing). drawnOver z (g .room .now)) (a .1)) in
     let t = front (cleared n (a .0)) room (u .last .1 .0) (s .result) (length-cleared n (a .0) ∙ e ∙ sym (s .ensures .0)) (u .ensures ∙ ap (λ (l : List ℕ). over (cleared n l) room) r) in
     c .before .before .put-frame .ensures
