@@ -1,3 +1,4 @@
 -- The laws of N rounds.
 pub mod Runs
 pub mod Cuts
+pub mod Examples
