@@ -106,8 +106,13 @@ def rest_cut(draft):
     draft.rest.pop()
 
 
+def spoil(body, kind):
+    """Puts in a byte that is no residue and no place; of packed bits the last, whose unused bits it sets."""
+    body[-1 if kind == 7 else 0] = 255
+
+
 def byte_spoilt(draft):
-    draft.rest[-1 if draft.kind == 7 else 0] = 255
+    spoil(draft.rest, draft.kind)
 
 
 FRAME_DAMAGES = [byte_spoilt, one_missing, two_more, other_version, other_kind, number_out_of_limits, rest_cut]
@@ -224,7 +229,7 @@ def plain_cut(plan):
 
 
 def plain_spoilt(plan):
-    plan.plain[-1 if plan.kind == 7 else 0] = 255
+    spoil(plan.plain, plan.kind)
 
 
 def room_short(plan):
