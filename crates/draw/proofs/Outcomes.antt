@@ -16,7 +16,7 @@ use Rattle.algebra.specs.declared.draw.Used.{Used}
 use Rattle.algebra.specs.declared.draw.Used.the-variants.{To, RanOut}
 use Rattle.draw.specs.declared.Taken.{Taken}
 use Rattle.draw.specs.declared.Taken.the-variants.{Bytes, Refused}
-use Rattle.draw.specs.Telling.{takenMeans, telling, usedTold, outAfter, Draws}
+use Rattle.draw.specs.Telling.{takenMeans, telling, usedTold, drawnAfter, Draws}
 
 taker : Told → Taken
 taker (done v) = Bytes (getD v 0 0)
@@ -31,7 +31,7 @@ module _ (numbers : Told) (need : ℕ) (drawing : Drawing) (random out : List �
   pub one-drawing : (a b : Taken) (x y : List ℕ) → Draws numbers need drawing random out a x → Draws numbers need drawing random out b y → (a ≡ b) × (x ≡ y)
   one-drawing a b x y p q =
       let e : a ≡ b = sym (taker-means a) ∙ ap taker (p .says ∙ sym (q .says)) ∙ taker-means b in
-      (e, p .writes ∙ ap (λ (t : Taken). outAfter t drawing out) e ∙ sym (q .writes))
+      (e, p .writes ∙ ap (λ (t : Taken). drawnAfter t drawing out) e ∙ sym (q .writes))
 
   pub refused-draws-nothing : (r : Refusal) (after : List ℕ) → Draws numbers need drawing random out (Refused r) after → after ≡ out
   refused-draws-nothing r after p = p .writes

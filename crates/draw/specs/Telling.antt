@@ -49,11 +49,11 @@ telling numbers need room used lent =
     first numbers (first (demand (leb need room) ROOM OUTPUT need) (usedTold used lent))
 
 -- the output afterwards: what was drawn over its front, or all that it held
-abbrev pub outAfter : Taken → Drawing → List ℕ → List ℕ
-outAfter (Bytes used) drawing out = drawnOver drawing out
-outAfter (Refused r) drawing out = out
+abbrev pub drawnAfter : Taken → Drawing → List ℕ → List ℕ
+drawnAfter (Bytes used) drawing out = drawnOver drawing out
+drawnAfter (Refused r) drawing out = out
 
 -- what a drawing promises: its answer, and every byte of the output
 pub record Draws (numbers : Told) (need : ℕ) (drawing : Drawing) (random out : List ℕ) (answer : Taken) (after : List ℕ) : Type 0 where
   pub says : takenMeans answer ≡ telling numbers need (length out) (usedBy drawing) (length random)
-  pub writes : after ≡ outAfter answer drawing out
+  pub writes : after ≡ drawnAfter answer drawing out

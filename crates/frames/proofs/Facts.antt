@@ -1,5 +1,5 @@
 -- What a check that refuses nothing says, as plain facts.
-use mathlib.Core.Path.{_≡_}
+use mathlib.Core.Path.{_≡_, sym, ap, _∙_}
 use mathlib.Core.Bool.{Bool, true}
 use mathlib.Core.List.{List, [], _∷_}
 use Prim.Native.Nat.{ℕ, _+_, _-_, _*_, _≤_}
@@ -17,8 +17,10 @@ use Rattle.frames.specs.declared.kind.Kind.{Kind}
 use Rattle.frames.specs.declared.kind.Kind.the-variants.{System, Public, Secret, Commitments, Challenges, Answers, Bits, Openings}
 use Rattle.frames.specs.declared.kind.Limits.{Limits}
 use Rattle.frames.specs.declared.kind.Expected.{Expected}
-use Rattle.frames.specs.Kinds.{within, alone, Modest, table, fits}
-use Rattle.frames.specs.Reading.{countOf, header, firstOf, secondOf, restOf, spareClear, shape, content, reading}
+use Rattle.frames.specs.declared.read.Read.{Read}
+use Rattle.frames.specs.declared.read.Read.the-variants.{Frame}
+use Rattle.frames.specs.Kinds.{limits, within, alone, Modest, table, fits}
+use Rattle.frames.specs.Reading.{countOf, header, firstOf, secondOf, restOf, spareClear, shape, content, reading, readMeans, Reads}
 
 -- ---- the header
 
@@ -121,6 +123,16 @@ start-five Answers = omega arith
 start-five Bits = omega arith
 start-five Openings = omega arith
 
+pub start-six : (k : Kind) → table k .start ≤ 6
+start-six System = omega arith
+start-six Public = omega arith
+start-six Secret = omega arith
+start-six Commitments = omega arith
+start-six Challenges = omega arith
+start-six Answers = omega arith
+start-six Bits = omega arith
+start-six Openings = omega arith
+
 -- ---- numbers alone
 
 pub modest-alone : Modest alone
@@ -175,3 +187,16 @@ reading-told k e s v q =
       },
       cc,
     )
+
+-- the same of a reader's answer
+pub frame-fits : (k : Kind) (e : Expected) (s : List ℕ) (r : Read) (x y z : ℕ) → Reads k e s r → r ≡ Frame x y z → FrameFits k e s
+frame-fits k e s r x y z m q = reading-told k e s _ (sym (m .says) ∙ ap readMeans q) .0
+
+-- ---- the numbers of a frame of which one is asked
+
+module _ (k : Kind) (e : Expected) (s : List ℕ) (h : Shaped k e s) where
+  pub first-asked : (n : ℕ) → table k .first e ≡ limits n n → firstOf s ≡ n
+  first-asked n q = let p = rw q at (first-within k e (firstOf s) (secondOf k s) (h .numbers)) in omega arith
+
+  pub second-asked : (n : ℕ) → table k .second e (firstOf s) ≡ limits n n → secondOf k s ≡ n
+  second-asked n q = let p = rw q at (second-within k e (firstOf s) (secondOf k s) (h .numbers)) in omega arith

@@ -7,6 +7,7 @@ pub mod OpeningLaws
 pub mod PackedBits
 pub mod Clearing
 pub mod Passing
+pub mod Chosen
 pub mod Spelling
 pub mod Outcomes
 pub mod Examples

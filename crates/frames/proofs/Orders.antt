@@ -1,5 +1,5 @@
 -- Laws of the orders of refusals, an answer each, as the code finds them.
-use mathlib.Core.Path.{_≡_, ap, _∙_}
+use mathlib.Core.Path.{_≡_, sym, ap, _∙_}
 use mathlib.Core.Bool.{Bool, true, false}
 use mathlib.Core.List.{List, [], _∷_}
 use Prim.Native.Nat.{ℕ, _+_, _-_, _≤_, _<_}
@@ -7,12 +7,15 @@ use native.Mathlib.Omega.{arith}
 use borrow.Author.Tests.{lt-leb, le-leb, eq-eqb, ne-eqb}
 use lib.ListN.{length, getD, take, drop, length-drop}
 use lib.Seq.{take-all}
+use Rattle.refusals.specs.declared.Refusal.{Refusal}
 use Rattle.refusals.specs.Number.{SHORT, LONG, VERSION, KIND}
-use Rattle.refusals.specs.Told.{done, refused, fine}
+use Rattle.refusals.specs.Told.{Told, done, refused, fine, told, first}
 use Rattle.frames.specs.declared.kind.Kind.{Kind}
 use Rattle.frames.specs.declared.kind.Expected.{Expected}
+use Rattle.frames.specs.declared.read.Read.{Read}
+use Rattle.frames.specs.declared.read.Read.the-variants.{Frame, Refused}
 use Rattle.frames.specs.Kinds.{table, fits}
-use Rattle.frames.specs.Reading.{countOf, header, firstOf, secondOf, restOf, spareClear, shape, content}
+use Rattle.frames.specs.Reading.{countOf, header, firstOf, secondOf, restOf, spareClear, shape, content, readMeans}
 
 -- ---- the header; b is the kind's buffer
 
@@ -51,6 +54,14 @@ module _ (k : Kind) (s : List ℕ) (b : ℕ) (e : b ≡ table k .buffer) where
     unfolding header
     headed v f =
         rw (le-leb 4 (length s) h, le-leb _ _ le, le-leb _ _ ge, eq-eqb (getD s 2 0) (table k .version) v, eq-eqb (getD s 3 0) (table k .number) f)
+
+-- ---- links of a chain that are frames: `r` is a reader's answer and `a` what it has to mean
+
+pub frame-goes-on : {r : Read} {a b c : Told} {x y z : ℕ} → readMeans r ≡ a → r ≡ Frame x y z → c ≡ b → c ≡ first a b
+frame-goes-on {b = b} m e n = n ∙ ap (λ (t : Told). first t b) (sym (ap readMeans e) ∙ m)
+
+pub frame-stops : (b : Told) {r : Read} {a : Told} {x : Refusal} → readMeans r ≡ a → r ≡ Refused x → told x ≡ first a b
+frame-stops b m e = ap (λ (t : Told). first t b) (sym (ap readMeans e) ∙ m)
 
 -- ---- SHAPE; a and b are the numbers
 

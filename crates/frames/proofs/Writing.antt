@@ -1,5 +1,5 @@
 -- Laws of writing: the heading, and the orders of refusals, an answer each, as the code finds them.
-use mathlib.Core.Path.{_≡_, ap, _∙_}
+use mathlib.Core.Path.{_≡_, sym, _∙_}
 use mathlib.Core.Bool.{true, false}
 use mathlib.Core.List.{List, [], _∷_, _++_}
 use Prim.Native.Nat.{ℕ, _+_, _-_, _/_, _%_, _≤_, _<_}
@@ -14,14 +14,14 @@ use Rattle.refusals.specs.declared.Checked.the-variants.{Fine, Refused}
 use Rattle.refusals.specs.Number.{SHAPE, ROOM}
 use Rattle.refusals.specs.Buffer.{NONE, OUTPUT}
 use Rattle.refusals.specs.Told.{Told, done, refused, fine, told, means, first, demand}
-use Rattle.refusals.proofs.Chain.{passes, stops, Passed, first-done, demand-done}
+use Rattle.refusals.proofs.Chain.{goes-on, stops, Passed, first-done, demand-done}
 use Rattle.algebra.specs.Lists.{over, overAt}
 use Rattle.algebra.proofs.Lists.{over-behind}
 use Rattle.frames.specs.declared.kind.Kind.{Kind}
 use Rattle.frames.specs.Kinds.{alone, table, fits}
 use Rattle.frames.specs.Reading.{spareClear, content}
 use Rattle.frames.specs.Writing.{heading, frame, frameSize, plainCheck}
-use Rattle.frames.proofs.Facts.{test-holds, rest-done}
+use Rattle.frames.proofs.Facts.{test-holds, rest-done, start-six}
 
 -- the heading as the code lays it out, the first `start` of an array
 abbrev pub laid : ℕ → ℕ → ℕ → ℕ → ℕ → ℕ → List ℕ
@@ -33,14 +33,18 @@ laid-length start count version number a b l = length-take-le start _ l
 pub laid-fits : (start count version number a b room : ℕ) → start ≤ 6 → start ≤ room → length (laid start count version number a b) ≤ room
 laid-fits start count version number a b room l h = rw (laid-length start count version number a b l) h
 
+pub laid-heading : (k : Kind) (start size version number a b : ℕ) → start ≡ table k .start → version ≡ table k .version → number ≡ table k .number
+    → laid start (start - 2 + size) version number a b ≡ heading k (table k .start - 2 + size) a b
+laid-heading k start size version number a b p q r = rw (p, q, r)
+
+pub heading-length : (k : Kind) (count a b : ℕ) → length (heading k count a b) ≡ table k .start
+heading-length k count a b = laid-length (table k .start) count _ _ a b (start-six k)
+
 -- a frame is its heading and then the rest
-pub framed : (k : Kind) (a b : ℕ) (rest out : List ℕ) (start version number : ℕ) → start ≤ 6 → start ≡ table k .start → version ≡ table k .version
-    → number ≡ table k .number → overAt rest start (over (laid start (start - 2 + length rest) version number a b) out) ≡ over (frame k a b rest) out
+pub framed : (k : Kind) (a b : ℕ) (rest out : List ℕ) (start : ℕ) → start ≡ table k .start
+    → overAt rest start (over (heading k (table k .start - 2 + length rest) a b) out) ≡ over (frame k a b rest) out
 unfolding frame
-framed k a b rest out start version number l p q r =
-    let e : laid start (start - 2 + length rest) version number a b ≡ heading k (table k .start - 2 + length rest) a b = rw (p, q, r) in
-    over-behind (laid start (start - 2 + length rest) version number a b) rest out start (laid-length start _ version number a b l)
-    ∙ ap (λ (h : List ℕ). over (h ++ rest) out) e
+framed k a b rest out start p = over-behind (heading k _ a b) rest out start (heading-length k _ a b ∙ sym p)
 
 -- ---- the plain buffer; b' is the kind's buffer
 
@@ -61,11 +65,11 @@ module _ (k : Kind) (a b : ℕ) (plain : List ℕ) where
 
       pub bad-spare : (b′ : ℕ) → b′ ≡ table k .buffer → r ≡ Fine → spareClear k a plain ≡ false → refused SHAPE b′ 0 ≡ plainCheck k a b plain
       unfolding plainCheck
-      bad-spare b′ p e f = rw (t, eq-eqb (length plain) (table k .size a b) n) (passes m e (rw (f, p)))
+      bad-spare b′ p e f = rw (t, eq-eqb (length plain) (table k .size a b) n) (goes-on m e (rw (f, p)))
 
       pub good-plain : r ≡ Fine → spareClear k a plain ≡ true → fine ≡ plainCheck k a b plain
       unfolding plainCheck
-      good-plain e f = rw (t, eq-eqb (length plain) (table k .size a b) n) (passes m e (rw f))
+      good-plain e f = rw (t, eq-eqb (length plain) (table k .size a b) n) (goes-on m e (rw f))
 
 -- what a plain buffer that is not refused says
 pub record Plain (k : Kind) (a b : ℕ) (plain : List ℕ) : Type 0 where

@@ -24,6 +24,13 @@ offsets = 1048576
 abbrev pub alone : Expected
 alone = record { places = limits 2 64; rounds = limits 1 64 }
 
+-- what is asked inside a call: once n is known, and once N is known too
+abbrev pub ofPlaces : ℕ → Expected
+ofPlaces n = record { places = limits n n; rounds = alone .rounds }
+
+abbrev pub exactly : ℕ → ℕ → Expected
+exactly n N = record { places = limits n n; rounds = limits N N }
+
 -- what is asked inside a call asks no more of the code than a frame alone does
 pub record Modest (e : Expected) : Type 0 where
   pub places : e .places .greatest ≤ longest

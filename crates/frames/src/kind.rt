@@ -9,7 +9,7 @@ use refusals::buffer::SECRET;
 use refusals::buffer::SYSTEM;
 ghost use mathlib.Core.Path.{_≡_};
 ghost use Prim.Native.Nat.{_-_, _*_, _≤_, _<_};
-ghost use Rattle.frames.specs.Kinds.{limits, alone, within, table, fits};
+ghost use Rattle.frames.specs.Kinds.{limits, alone, ofPlaces, exactly, within, table, fits};
 
 pub enum Kind {
     System,
@@ -46,6 +46,38 @@ pub fn alone() -> Expected
         rounds: Limits {
             least: 1,
             greatest: 64,
+        },
+    }
+}
+
+// What is asked inside a call once n is known.
+pub fn of_places(n: usize) -> Expected
+    ensures { λ r. ⌜ r ≡ ofPlaces n ⌝ }
+{
+    Expected {
+        places: Limits {
+            least: n,
+            greatest: n,
+        },
+        rounds: Limits {
+            least: 1,
+            greatest: 64,
+        },
+    }
+}
+
+// The same once N is known too.
+pub fn exactly(n: usize, rounds: usize) -> Expected
+    ensures { λ r. ⌜ r ≡ exactly n rounds ⌝ }
+{
+    Expected {
+        places: Limits {
+            least: n,
+            greatest: n,
+        },
+        rounds: Limits {
+            least: rounds,
+            greatest: rounds,
         },
     }
 }

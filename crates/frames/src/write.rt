@@ -19,12 +19,12 @@ use refusals::number::ROOM;
 use refusals::number::SHAPE;
 use refusals::refuse;
 ghost use mathlib.Core.Path.{_≡_};
-ghost use Prim.Native.Nat.{_+_, _≤_, _<_};
+ghost use Prim.Native.Nat.{_+_, _-_, _≤_, _<_};
 ghost use lib.ListN.{length};
 ghost use Rattle.refusals.specs.Told.{means};
 ghost use Rattle.algebra.specs.Lists.{over};
 ghost use Rattle.frames.specs.Kinds.{table};
-ghost use Rattle.frames.specs.Writing.{frame, plainCheck, Writes};
+ghost use Rattle.frames.specs.Writing.{heading, frame, plainCheck, Writes};
 
 // What a writer answers: the bytes written.
 pub enum Written {
@@ -51,14 +51,14 @@ fn check_plain(kind: Kind, a: usize, b: usize, plain: &[u8]) -> Checked
     Checked::Fine
 }
 
-// Writes a frame, for which there is room.
-pub fn put_frame(kind: Kind, a: usize, b: usize, rest: &[u8], out: &mut [u8])
-    requires { ⌜ (a < 256) × (b < 256) × (length (now rest) < 65000) × (table kind .start + length (now rest) ≤ length (now out)) ⌝ }
-    ensures { λ _. ⌜ now (out .exit) ≡ over (frame kind a b (now (rest .entry))) (now (out .entry)) ⌝ }
+// Writes what stands before the `size` bytes of the rest of a body, for which there is room.
+pub fn put_heading(kind: Kind, a: usize, b: usize, size: usize, out: &mut [u8])
+    requires { ⌜ (a < 256) × (b < 256) × (size < 65000) × (table kind .start ≤ length (now out)) ⌝ }
+    ensures { λ _. ⌜ now (out .exit) ≡ over (heading kind (table kind .start - 2 + size) a b) (now (out .entry)) ⌝ }
 {
     let start = start_of(kind);
-    let count = start - 2 + rest.len();
-    let heading = [
+    let count = start - 2 + size;
+    let bytes = [
         (count / 256) as u8,
         (count % 256) as u8,
         version_of(kind),
@@ -66,8 +66,16 @@ pub fn put_frame(kind: Kind, a: usize, b: usize, rest: &[u8], out: &mut [u8])
         a as u8,
         b as u8,
     ];
-    copy_into(&heading[..start], out);
-    copy_at(rest, start, out);
+    copy_into(&bytes[..start], out);
+}
+
+// Writes a frame, for which there is room.
+pub fn put_frame(kind: Kind, a: usize, b: usize, rest: &[u8], out: &mut [u8])
+    requires { ⌜ (a < 256) × (b < 256) × (length (now rest) < 65000) × (table kind .start + length (now rest) ≤ length (now out)) ⌝ }
+    ensures { λ _. ⌜ now (out .exit) ≡ over (frame kind a b (now (rest .entry))) (now (out .entry)) ⌝ }
+{
+    put_heading(kind, a, b, rest.len(), out);
+    copy_at(rest, start_of(kind), out);
 }
 
 // Writes a frame of any kind.

@@ -30,8 +30,8 @@ means-fixes a b e = sym (answering-means a) ∙ ap answering e ∙ answering-mea
 -- ---- a chain, as the code goes through it: `r` is a callee's answer and `a` what it has to mean
 
 -- past a check that refuses nothing the rest of the chain counts
-pub passes : {r : Checked} {a b c : Told} → means r ≡ a → r ≡ Fine → c ≡ b → c ≡ first a b
-passes {b = b} m e n = n ∙ ap (λ (t : Told). first t b) (sym (ap means e) ∙ m)
+pub goes-on : {r : Checked} {a b c : Told} → means r ≡ a → r ≡ Fine → c ≡ b → c ≡ first a b
+goes-on {b = b} m e n = n ∙ ap (λ (t : Told). first t b) (sym (ap means e) ∙ m)
 
 -- a check that refuses ends it, whatever was to come next
 pub stops : (b : Told) {r : Checked} {a : Told} {x : Refusal} → means r ≡ a → r ≡ Refused x → told x ≡ first a b

@@ -9,7 +9,7 @@ use Rattle.algebra.specs.Permutations.{permute}
 use Rattle.frames.specs.PackedBits.{bitAt}
 use Rattle.frames.specs.Choosing.{vectorOf, permutationOf}
 use Rattle.round.specs.Round.{pair, opened, firstAnswer, opening}
-use Rattle.rounds.specs.Layout.{choiceAt, messages, half, halfStart, challengeAt, openedAt}
+use Rattle.rounds.specs.Layout.{pairAt, messages, half, halfStart, challengeAt, openedAt}
 use Rattle.rounds.specs.Rounds.{answerAt, openingAt}
 
 abbrev two : ℕ → ℕ → List ℕ
@@ -23,8 +23,8 @@ choices = two 1 2 ++ two 1 0 ++ two 3 4 ++ two 0 1
 abbrev bits : List ℕ
 bits = 64 ∷ []
 
-layout : (choiceAt 2 choices 0 ≡ pair (two 1 2) (two 1 0))
-    × (choiceAt 2 choices 1 ≡ pair (two 3 4) (two 0 1))
+layout : (pairAt 2 choices 0 ≡ pair (two 1 2) (two 1 0))
+    × (pairAt 2 choices 1 ≡ pair (two 3 4) (two 0 1))
     × (halfStart false 1 ≡ 64)
     × (halfStart true 1 ≡ 96)
 unfolding vectorOf permutationOf stretch halfStart

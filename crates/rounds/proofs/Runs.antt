@@ -18,15 +18,15 @@ use Rattle.sha256.proofs.Digest.{digest-length}
 use Rattle.frames.specs.PackedBits.{bitAt}
 use Rattle.round.specs.Round.{System, Sound, ValidKey, Pair, committed0, committed1, firstAnswer, opening, honest, opened, commitmentOf, openedOf, passes}
 use Rattle.round.proofs.Laws.{length-under, honest-passes}
-use Rattle.rounds.specs.Layout.{choiceAt, AllWell, Messages, half, openedAt}
+use Rattle.rounds.specs.Layout.{pairAt, AllWell, Messages, half, openedAt}
 use Rattle.rounds.specs.Rounds.{commitmentsAt, answerAt, openingAt, honestRun, passesAt, failsAt, firstFailing}
 
 -- ---- the lengths of what a round adds
 
 pub commitments-length : (s : System) (π choices : List ℕ) (k : ℕ) → length (commitmentsAt s π choices k) ≡ 64
 commitments-length s π choices k =
-    let a = digest-length (committed0 s (choiceAt (s .n) choices k)) in
-    let b = digest-length (committed1 π (choiceAt (s .n) choices k)) in
+    let a = digest-length (committed0 s (pairAt (s .n) choices k)) in
+    let b = digest-length (committed1 π (pairAt (s .n) choices k)) in
     simp length-append (omega arith)
 
 pub answer-length : (p n : ℕ) (v π : List ℕ) (c : ℕ) (x : Pair) → IsPerm n π → IsPerm n (x .permutation) → length (firstAnswer p v π c x) ≡ n
@@ -70,14 +70,14 @@ module _ (s : System) (v π : List ℕ) (ok : Sound s) (key : ValidKey s v π) (
   -- what is opened of round k is what the honest round opens
   pub honest-opened : (k : ℕ) → k < N
       → openedAt (s .n) (honestRun s v π N choices challenges bits) k
-      ≡ openedOf (bitAt bits k) (honest s v π (getD challenges k 0) (bitAt bits k) (choiceAt (s .n) choices k))
+      ≡ openedOf (bitAt bits k) (honest s v π (getD challenges k 0) (bitAt bits k) (pairAt (s .n) choices k))
   unfolding openedAt honest
   honest-opened k l =
-      let x = choiceAt (s .n) choices k in
+      let x = pairAt (s .n) choices k in
       let bit = bitAt bits k in
       let c = getD challenges k 0 in
       let e = stretch-joined 64 N (commitmentsAt s π choices) (λ j h. commitments-length s π choices j) k l in
-      let f = stretch-joined (s .n) N (answerAt (s .p) (s .n) v π challenges choices) (λ j h. answer-length (s .p) (s .n) v π (getD challenges j 0) (choiceAt (s .n) choices j) (key .perm) (well .each j h .perm)) k l in
+      let f = stretch-joined (s .n) N (answerAt (s .p) (s .n) v π challenges choices) (λ j h. answer-length (s .p) (s .n) v π (getD challenges j 0) (pairAt (s .n) choices j) (key .perm) (well .each j h .perm)) k l in
       let g = stretch-joined (s .n) N (openingAt (s .n) π bits choices) (λ j h. opening-length (s .n) π (bitAt bits j) _ (well .each j h .perm)) k l in
       ap (λ (z : List ℕ). opened z (stretch (s .n) k (joined N (answerAt (s .p) (s .n) v π challenges choices))) (stretch (s .n) k (joined N (openingAt (s .n) π bits choices))))
       (ap (half bit) e ∙ half-honest s v π c bit bit x)
@@ -88,7 +88,7 @@ module _ (s : System) (v π : List ℕ) (ok : Sound s) (key : ValidKey s v π) (
   unfolding passesAt
   honest-round-passes k l small =
       ap (passes s v (getD challenges k 0) (bitAt bits k)) (honest-opened k l)
-      ∙ honest-passes s v π ok key (getD challenges k 0) (choiceAt (s .n) choices k) (well .each k l) small (bitAt bits k)
+      ∙ honest-passes s v π ok key (getD challenges k 0) (pairAt (s .n) choices k) (well .each k l) small (bitAt bits k)
 
   pub none-fails : ((k : ℕ) → k < N → getD challenges k 0 ≤ s .p) → firstFailing s v (honestRun s v π N choices challenges bits) N ≡ N
   none-fails small = all-pass s v (honestRun s v π N choices challenges bits) N (λ k l. honest-round-passes k l (small k l))

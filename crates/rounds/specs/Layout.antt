@@ -12,13 +12,13 @@ use Rattle.frames.specs.Choosing.{choiceSize, choiceOf, vectorOf, permutationOf
 use Rattle.round.specs.Round.{System, Pair, pair, WellFormed, Opened, opened}
 
 -- R and σ of round k
-abbrev pub choiceAt : ℕ → List ℕ → ℕ → Pair
-choiceAt n choices k = pair (vectorOf n (choiceOf choices n k)) (permutationOf n (choiceOf choices n k))
+abbrev pub pairAt : ℕ → List ℕ → ℕ → Pair
+pairAt n choices k = pair (vectorOf n (choiceOf choices n k)) (permutationOf n (choiceOf choices n k))
 
 -- every round's choices are well formed
 pub record AllWell (s : System) (N : ℕ) (choices : List ℕ) : Type 0 where
   pub size : length choices ≡ N * choiceSize (s .n)
-  pub each : (k : ℕ) → k < N → WellFormed s (choiceAt (s .n) choices k)
+  pub each : (k : ℕ) → k < N → WellFormed s (pairAt (s .n) choices k)
 
 -- what the code asks of a vector, a key and the choices: of round k, and of N rounds
 pub record RoundFits (n : ℕ) (v π choices : List ℕ) (k : ℕ) : Type 0 where
@@ -27,7 +27,7 @@ pub record RoundFits (n : ℕ) (v π choices : List ℕ) (k : ℕ) : Type 0 wher
   pub vector : length v ≡ n
   pub key : IsPerm n π
   pub there : k * choiceSize n + choiceSize n ≤ length choices
-  pub perm : IsPerm n (choiceAt n choices k .permutation)
+  pub perm : IsPerm n (pairAt n choices k .permutation)
 
 pub record CardFits (n N : ℕ) (v π choices : List ℕ) : Type 0 where
   pub few : N < 257

@@ -7,17 +7,17 @@ use Rattle.algebra.specs.Lists.{joined, firstFrom}
 use Rattle.sha256.specs.Standard.{digestOf}
 use Rattle.frames.specs.PackedBits.{bitAt}
 use Rattle.round.specs.Round.{System, committed0, committed1, firstAnswer, opening, passes}
-use Rattle.rounds.specs.Layout.{choiceAt, Messages, challengeAt, openedAt}
+use Rattle.rounds.specs.Layout.{pairAt, Messages, challengeAt, openedAt}
 
 -- what round k adds to each message: C0 and C1; W; the opened permutation
 abbrev pub commitmentsAt : System → List ℕ → List ℕ → ℕ → List ℕ
-commitmentsAt s π choices k = digestOf (committed0 s (choiceAt (s .n) choices k)) ++ digestOf (committed1 π (choiceAt (s .n) choices k))
+commitmentsAt s π choices k = digestOf (committed0 s (pairAt (s .n) choices k)) ++ digestOf (committed1 π (pairAt (s .n) choices k))
 
 abbrev pub answerAt : ℕ → ℕ → List ℕ → List ℕ → List ℕ → List ℕ → ℕ → List ℕ
-answerAt p n v π challenges choices k = firstAnswer p v π (getD challenges k 0) (choiceAt n choices k)
+answerAt p n v π challenges choices k = firstAnswer p v π (getD challenges k 0) (pairAt n choices k)
 
 abbrev pub openingAt : ℕ → List ℕ → List ℕ → List ℕ → ℕ → List ℕ
-openingAt n π bits choices k = opening π (bitAt bits k) (choiceAt n choices k .permutation)
+openingAt n π bits choices k = opening π (bitAt bits k) (pairAt n choices k .permutation)
 
 -- the messages of an honest card
 abbrev pub honestRun : System → List ℕ → List ℕ → ℕ → List ℕ → List ℕ → List ℕ → Messages

@@ -3,12 +3,12 @@ ghost use mathlib.Core.Path.{_≡_};
 ghost use Prim.Native.Nat.{_+_, _*_, _≤_, _<_};
 ghost use lib.ListN.{length};
 ghost use Rattle.frames.specs.Choosing.{choiceSize};
-ghost use Rattle.rounds.specs.Layout.{choiceAt, halfStart};
+ghost use Rattle.rounds.specs.Layout.{pairAt, halfStart};
 
 // R of round k.
 pub fn vector_of(choices: &[u8], n: usize, k: usize) -> &[u8]
     requires { ⌜ k * choiceSize n + choiceSize n ≤ length (now choices) ⌝ }
-    ensures { λ r. ⌜ now r ≡ choiceAt n (now (choices .entry)) k .vector ⌝ }
+    ensures { λ r. ⌜ now r ≡ pairAt n (now (choices .entry)) k .vector ⌝ }
 {
     let at = k * (n + n);
     let end = at + n;
@@ -18,7 +18,7 @@ pub fn vector_of(choices: &[u8], n: usize, k: usize) -> &[u8]
 // sigma of round k.
 pub fn permutation_of(choices: &[u8], n: usize, k: usize) -> &[u8]
     requires { ⌜ k * choiceSize n + choiceSize n ≤ length (now choices) ⌝ }
-    ensures { λ r. ⌜ now r ≡ choiceAt n (now (choices .entry)) k .permutation ⌝ }
+    ensures { λ r. ⌜ now r ≡ pairAt n (now (choices .entry)) k .permutation ⌝ }
 {
     let at = k * (n + n) + n;
     let end = at + n;

@@ -15,27 +15,22 @@ use Rattle.algebra.specs.Residues.{modulus}
 use Rattle.algebra.specs.Permutations.{IsPerm}
 use Rattle.algebra.specs.Matrices.{SystemFits}
 use Rattle.frames.specs.declared.kind.Kind.the-variants.{System, Public}
-use Rattle.frames.specs.declared.read.Read.{Read}
-use Rattle.frames.specs.declared.read.Read.the-variants.{Frame}
-use Rattle.frames.specs.Kinds.{alone}
-use Rattle.frames.specs.Reading.{firstOf, secondOf, restOf, reading, readMeans, Reads}
+use Rattle.frames.specs.Kinds.{alone, ofPlaces}
+use Rattle.frames.specs.Reading.{firstOf, secondOf, restOf, reading}
 use Rattle.frames.specs.Choosing.{vectorOf, permutationOf, choicesCheck}
-use Rattle.frames.proofs.Facts.{test-holds, rest-done, first-within, Shaped, rest-length, FrameFits, reading-told}
+use Rattle.frames.proofs.Facts.{test-holds, rest-done, rest-length, reading-told, first-asked}
 use Rattle.frames.proofs.Orders.{rest-part}
 use Rattle.frames.proofs.Passing.{system-fits}
+use Rattle.frames.proofs.Chosen.{Choice, choices-told, first-stretch}
 use Rattle.round.specs.Round.{systemOf, pair, WellFormed, standIn}
-use Rattle.stand_in.specs.Standing.{ofPlaces, lentCheck, standInOf}
-use Rattle.stand_in.proofs.Choices.{one-choice-told}
+use Rattle.stand_in.specs.Standing.{lentCheck, standInOf}
 
-pub system-read : (s : List ℕ) (r : Read) (x y z : ℕ) → Reads System alone s r → r ≡ Frame x y z → FrameFits System alone s
-system-read s r x y z m e = reading-told System alone s _ (sym (m .says) ∙ ap readMeans e) .0
-
--- a key of n places
-key-fits : (n : ℕ) (s : List ℕ) → Shaped Public (ofPlaces n) s → length (restOf Public s) ≡ n
-key-fits n s h =
-    let p = first-within Public (ofPlaces n) (firstOf s) (secondOf Public s) (h .numbers) in
-    let e : firstOf s ≡ n = omega arith in
-    rest-length Public (ofPlaces n) s h ∙ e
+-- the choices of one round
+one-choice-told : (n : ℕ) (choices v : List ℕ) → choicesCheck n 1 choices ≡ done v → (length choices ≡ n + n) × Choice n choices
+one-choice-told n choices v e =
+    let c = choices-told n 1 choices v e in
+    let z : length choices ≡ n + n = omega (arith, c .0) in
+    (z, subst (Choice n) (first-stretch (n + n) choices (omega arith)) (c .1 0 (omega arith)))
 
 pub record LentFits (c bit : ℕ) (system key lent : List ℕ) : Type 0 where
   pub challenge : c < modulus
@@ -70,7 +65,7 @@ lent-told c bit system key lent v e =
       systemThere = s .form .there;
       systemFits = system-fits system s;
       keyThere = k .there;
-      keyFits = key-fits n key k;
+      keyFits = rest-length Public (ofPlaces n) key k ∙ first-asked Public (ofPlaces n) key k n refl;
       size = x .0;
       well = record { size = length-take-le n lent (omega arith); residues = x .1 .residues; perm = x .1 .perm };
     }

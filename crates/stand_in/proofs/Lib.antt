@@ -1,5 +1,4 @@
 -- The laws of the stand-in's call, and examples.
-pub mod Choices
 pub mod Orders
 pub mod Facts
 pub mod Laid

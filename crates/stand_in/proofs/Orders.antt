@@ -1,5 +1,5 @@
 -- Laws of the order of refusals, an answer each, as the code finds them.
-use mathlib.Core.Path.{_≡_, sym, ap, _∙_}
+use mathlib.Core.Path.{_≡_}
 use mathlib.Core.List.{List, [], _∷_}
 use Prim.Native.Nat.{ℕ, _≤_, _<_}
 use native.Mathlib.Omega.{arith}
@@ -13,18 +13,11 @@ use Rattle.algebra.specs.Residues.{modulus}
 use Rattle.frames.specs.declared.kind.Kind.the-variants.{System, Public}
 use Rattle.frames.specs.declared.read.Read.{Read}
 use Rattle.frames.specs.declared.read.Read.the-variants.{Frame, Refused}
-use Rattle.frames.specs.Kinds.{alone}
-use Rattle.frames.specs.Reading.{firstOf, readMeans, Reads}
+use Rattle.frames.specs.Kinds.{alone, ofPlaces}
+use Rattle.frames.specs.Reading.{firstOf, Reads}
 use Rattle.frames.specs.Choosing.{choicesCheck}
-use Rattle.stand_in.specs.Standing.{ofPlaces, lentCheck, roundSize}
-
--- ---- links of a chain that are frames: `r` is a reader's answer and `a` what it has to mean
-
-frame-passes : {r : Read} {a b c : Told} {x y z : ℕ} → readMeans r ≡ a → r ≡ Frame x y z → c ≡ b → c ≡ first a b
-frame-passes {b = b} m e n = n ∙ ap (λ (t : Told). first t b) (sym (ap readMeans e) ∙ m)
-
-frame-stops : (b : Told) {r : Read} {a : Told} {x : Refusal} → readMeans r ≡ a → r ≡ Refused x → told x ≡ first a b
-frame-stops b m e = ap (λ (t : Told). first t b) (sym (ap readMeans e) ∙ m)
+use Rattle.frames.proofs.Orders.{frame-goes-on, frame-stops}
+use Rattle.stand_in.specs.Standing.{lentCheck, roundSize}
 
 -- ---- what is lent
 
@@ -46,11 +39,11 @@ module _ (c bit : ℕ) (system key lent : List ℕ) where
       module _ (x y z : ℕ) (e : r ≡ Frame x y z) (q : Read) (k : Reads Public (ofPlaces (firstOf system)) key q) where
         pub bad-key : (x : Refusal) → q ≡ Refused x → told x ≡ lentCheck c bit system key lent
         unfolding lentCheck
-        bad-key x f = rw (lt-ltb c modulus h, lt-ltb bit 2 l) (frame-passes (m .says) e (frame-stops _ (k .says) f))
+        bad-key x f = rw (lt-ltb c modulus h, lt-ltb bit 2 l) (frame-goes-on (m .says) e (frame-stops _ (k .says) f))
 
         pub choices-decide : (x y z : ℕ) → q ≡ Frame x y z → (t : Told) → t ≡ choicesCheck (firstOf system) 1 lent → t ≡ lentCheck c bit system key lent
         unfolding lentCheck
-        choices-decide x y z f t d = rw (lt-ltb c modulus h, lt-ltb bit 2 l) (frame-passes (m .says) e (frame-passes (k .says) f d))
+        choices-decide x y z f t d = rw (lt-ltb c modulus h, lt-ltb bit 2 l) (frame-goes-on (m .says) e (frame-goes-on (k .says) f d))
 
 -- ---- ROOM; `need` is what the code works out
 

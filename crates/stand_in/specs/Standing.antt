@@ -9,17 +9,12 @@ use Rattle.refusals.specs.Buffer.{NONE, OUTPUT}
 use Rattle.refusals.specs.Told.{Told, done, first, demand}
 use Rattle.algebra.specs.Residues.{modulus}
 use Rattle.frames.specs.declared.kind.Kind.the-variants.{System, Public}
-use Rattle.frames.specs.declared.kind.Expected.{Expected}
 use Rattle.frames.specs.declared.write.Written.{Written}
-use Rattle.frames.specs.Kinds.{limits, alone}
+use Rattle.frames.specs.Kinds.{alone, ofPlaces}
 use Rattle.frames.specs.Reading.{firstOf, secondOf, restOf, reading}
 use Rattle.frames.specs.Writing.{writtenMeans, outAfter}
 use Rattle.frames.specs.Choosing.{vectorOf, permutationOf, choicesCheck}
 use Rattle.round.specs.Round.{systemOf, pair, Opened, standIn}
-
--- what is asked of a frame once n is known
-abbrev pub ofPlaces : ℕ → Expected
-ofPlaces n = record { places = limits n n; rounds = alone .rounds }
 
 -- the numbers, then the frames, then the vector and the permutation, lent as one round of choices is
 unfoldable pub lentCheck : ℕ → ℕ → List ℕ → List ℕ → List ℕ → Told

@@ -3,9 +3,8 @@ use algebra::MODULUS;
 use algebra::output::copy_at;
 use algebra::output::copy_into;
 use frames::choices::check_choices;
-use frames::kind::Expected;
 use frames::kind::Kind;
-use frames::kind::Limits;
+use frames::kind::of_places;
 use frames::read::Read;
 use frames::read::read_frame;
 use frames::read::read_system;
@@ -29,23 +28,7 @@ ghost use Rattle.algebra.specs.Residues.{modulus};
 ghost use Rattle.algebra.specs.Permutations.{longest, IsPerm};
 ghost use Rattle.algebra.specs.Matrices.{SystemFits};
 ghost use Rattle.round.specs.Round.{systemOf, pair, standInAnswer, standIn};
-ghost use Rattle.stand_in.specs.Standing.{ofPlaces, lentCheck, roundSize, bytesOf, StandsIn};
-
-// What is asked of a frame once n is known.
-fn of_places(n: usize) -> Expected
-    ensures { λ r. ⌜ r ≡ ofPlaces n ⌝ }
-{
-    Expected {
-        places: Limits {
-            least: n,
-            greatest: n,
-        },
-        rounds: Limits {
-            least: 1,
-            greatest: 64,
-        },
-    }
-}
+ghost use Rattle.stand_in.specs.Standing.{lentCheck, roundSize, bytesOf, StandsIn};
 
 // The numbers, the frames, and what is lent.
 fn check_lent(c: usize, bit: usize, system: &[u8], key: &[u8], lent: &[u8]) -> Checked

@@ -4,20 +4,18 @@ use Prim.Native.Nat.{_≤_}
 use native.Mathlib.Omega.{arith}
 use borrow.Author.Needs.{needs}
 use Rattle.algebra.specs.Permutations.{longest}
-use Rattle.stand_in.specs.Standing.{ofPlaces}
-use Rattle.frames.specs.Kinds.{alone}
+use Rattle.frames.specs.Kinds.{alone, ofPlaces}
 use Rattle.frames.specs.Reading.{firstOf, Reads}
-use Rattle.frames.proofs.Facts.{FrameFits}
+use Rattle.frames.proofs.Facts.{FrameFits, frame-fits}
 use Rattle.frames.proofs.Passing.{system-fits}
 use Rattle.stand_in.proofs.Orders.{bad-challenge, bad-bit, bad-system, bad-key, choices-decide}
-use Rattle.stand_in.proofs.Facts.{system-read}
 use Rattle.frames.specs.declared.kind.Kind.the-variants.{System, Public}
 use Rattle.stand_in.proofs.check_lent.Statement.{statement}
 use Rattle.stand_in.proofs.check_lent.Tie as tie
 
 -- past the system's frame
 system-fine : (c : tie.After-enum-told) → FrameFits System alone (c .before .before .before .before .before .before .before .before .args .system .now)
-system-fine c = system-read _ _ _ _ _ (c .before .before .read-system .ensures) (c .enum-told .given .1)
+system-fine c = frame-fits System alone _ _ _ _ _ (c .before .before .read-system .ensures) (c .enum-told .given .1)
 
 -- n is at most 64
 n-fits : (c : tie.After-wide) → c .wide .result ≤ longest

@@ -5,7 +5,7 @@ use native.Mathlib.Omega.{arith}
 use borrow.Author.Needs.{needs}
 use lib.Seq.{length-take-le}
 use Rattle.refusals.specs.Told.{means}
-use Rattle.refusals.proofs.Chain.{passes, stops}
+use Rattle.refusals.proofs.Chain.{goes-on, stops}
 use Rattle.algebra.specs.Lists.{over}
 use Rattle.stand_in.specs.Standing.{bytesOf, standing}
 use Rattle.round.specs.Round.{Opened}
@@ -48,7 +48,7 @@ returns-2 : tie.Need-returns-2
 unfolding standing
 returns-2 c =
     record {
-      says = passes (c .before .before .before .before .before .check-lent .ensures) (c .before .before .before .enum-told .given .1) (no-room _ _ _ (omega (arith, c .before .wide .ensures .0)) (c .if1 .taken));
+      says = goes-on (c .before .before .before .before .before .check-lent .ensures) (c .before .before .before .enum-told .given .1) (no-room _ _ _ (omega (arith, c .before .wide .ensures .0)) (c .if1 .taken));
       writes = refl;
     }
 
@@ -106,7 +106,7 @@ returns-3 c =
     let g = c .before .before .before .before .before .before .before .before .before .before .before .before .before .before .before .before .before .before .before .before .args in
     let h = past-lent (c .before .before .before .before .before .before .before .before .before .before .before .before .before) in
     record {
-      says = passes (c .before .before .before .before .before .before .before .before .before .before .before .before .before .before .before .check-lent .ensures) (c .before .before .before .before .before .before .before .before .before .before .before .before .before .enum-told .given .1) (room-enough _ _ _ (omega (arith, c .before .before .before .before .before .before .before .before .before .before .before .wide .ensures .0)) (c .before .before .before .before .before .before .before .before .before .before .if1 .left));
+      says = goes-on (c .before .before .before .before .before .before .before .before .before .before .before .before .before .before .before .check-lent .ensures) (c .before .before .before .before .before .before .before .before .before .before .before .before .before .enum-told .given .1) (room-enough _ _ _ (omega (arith, c .before .before .before .before .before .before .before .before .before .before .before .wide .ensures .0)) (c .before .before .before .before .before .before .before .before .before .before .if1 .left));
       writes = c .before .before .put-round .ensures ∙ ap (λ (o : Opened). over (bytesOf o) (g .out .now)) (parts-stand-in _ _ _ _ _ h _ _ (c .before .before .before .before .before .before .before .before .before .before .before .wide .ensures .0) (c .before .before .before .before .before .before .before .before .wide2 .ensures .0));
     }
 

@@ -4,7 +4,7 @@ use Prim.Native.Nat.{_+_, _-_}
 use native.Mathlib.Omega.{arith}
 use borrow.Author.Needs.{needs}
 use lib.Seq.{length-take-le}
-use Rattle.refusals.proofs.Chain.{passes, stops}
+use Rattle.refusals.proofs.Chain.{goes-on, stops}
 use Rattle.frames.specs.Choosing.{vectorOf, permutationOf, choiceCheck}
 use Rattle.frames.proofs.choices.check_choice.Statement.{statement}
 use Rattle.frames.proofs.choices.check_choice.Tie as tie
@@ -50,7 +50,7 @@ unfolding choiceCheck vectorOf permutationOf
 returns-2 c =
     let g = c .before .before .before .before .before .before .before .args in
     let e : g .n + g .n - g .n ≡ g .n = omega arith in
-    passes (c .before .before .before .before .check-values .ensures) (c .before .before .enum-told .given .1)
+    goes-on (c .before .before .before .before .check-values .ensures) (c .before .before .enum-told .given .1)
     (rw e at (c .check-permutations .ensures))
 
 pub check-choice-spec : {M : Type 1} → statement M

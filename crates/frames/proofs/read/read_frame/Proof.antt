@@ -5,7 +5,7 @@ use native.Mathlib.Omega.{arith}
 use borrow.Author.Needs.{needs}
 use lib.ListN.{length, length-drop}
 use Rattle.refusals.specs.Told.{done, means}
-use Rattle.refusals.proofs.Chain.{passes, stops, demand-done}
+use Rattle.refusals.proofs.Chain.{goes-on, stops, demand-done}
 use Rattle.frames.specs.Kinds.{table}
 use Rattle.frames.specs.Reading.{firstOf, secondOf, reading}
 use Rattle.frames.proofs.Facts.{Headed, header-told, first-modest, Shaped, shape-told, rest-length, start-five}
@@ -48,7 +48,7 @@ returns-2 : tie.Need-returns-2
 unfolding reading
 returns-2 c =
     record {
-      says = passes (c .before .before .before .before .before .before .check-header .ensures) (c .before .before .before .before .enum-told .given .1)
+      says = goes-on (c .before .before .before .before .before .before .check-header .ensures) (c .before .before .before .before .enum-told .given .1)
           (stops _ (c .before .before .before .check-shape .ensures) (c .before .x2 .given .1));
     }
 
@@ -103,8 +103,8 @@ returns-3 c =
     let k = c .before .before .before .before .before .before .before .before .before .before .before .before .before .before .before .before .args .kind in
     let s = c .before .before .before .before .before .before .before .before .before .before .before .before .before .before .before .before .args .s .now in
     record {
-      says = passes (c .before .before .before .before .before .before .before .before .before .before .before .before .before .before .check-header .ensures) (c .before .before .before .before .before .before .before .before .before .before .before .before .enum-told .given .1)
-          (passes (c .before .before .before .before .before .before .before .before .before .before .before .check-shape .ensures) (c .before .before .before .before .before .before .before .before .before .enum-told2 .given .1)
+      says = goes-on (c .before .before .before .before .before .before .before .before .before .before .before .before .before .before .check-header .ensures) (c .before .before .before .before .before .before .before .before .before .before .before .before .enum-told .given .1)
+          (goes-on (c .before .before .before .before .before .before .before .before .before .before .before .check-shape .ensures) (c .before .before .before .before .before .before .before .before .before .enum-told2 .given .1)
           (stops (done (firstOf s ∷ secondOf k s ∷ table k .start ∷ [])) (c .before .before .before .check-content .ensures ∙ content-read k s _ _ _ (c .before .before .before .before .before .before .wide .ensures .0) (c .before .before .before .before .before .second-of .ensures .0) (c .before .before .before .before .before .before .before .before .start-of .ensures .0))
           (c .before .x3 .given .1)));
     }
@@ -121,9 +121,9 @@ returns-4 c =
     let q = c .before .before .before .before .second-of .ensures .0 in
     let r = c .before .before .before .before .before .before .before .start-of .ensures .0 in
     record {
-      says = passes (c .before .before .before .before .before .before .before .before .before .before .before .before .before .check-header .ensures) (c .before .before .before .before .before .before .before .before .before .before .before .enum-told .given .1)
-          (passes (c .before .before .before .before .before .before .before .before .before .before .check-shape .ensures) (c .before .before .before .before .before .before .before .before .enum-told2 .given .1)
-          (passes (c .before .before .check-content .ensures ∙ content-read k s _ _ _ p q r) (c .enum-told3 .given .1) (numbers-read k s _ _ _ p q r)));
+      says = goes-on (c .before .before .before .before .before .before .before .before .before .before .before .before .before .check-header .ensures) (c .before .before .before .before .before .before .before .before .before .before .before .enum-told .given .1)
+          (goes-on (c .before .before .before .before .before .before .before .before .before .before .check-shape .ensures) (c .before .before .before .before .before .before .before .before .enum-told2 .given .1)
+          (goes-on (c .before .before .check-content .ensures ∙ content-read k s _ _ _ p q r) (c .enum-told3 .given .1) (numbers-read k s _ _ _ p q r)));
     }
 
 pub read-frame-spec : {M : Type 1} → statement M

@@ -4,7 +4,7 @@ use mathlib.Core.List.{[]}
 use native.Mathlib.Omega.{arith}
 use borrow.Author.Needs.{needs}
 use Rattle.refusals.specs.Told.{means}
-use Rattle.refusals.proofs.Chain.{passes, stops}
+use Rattle.refusals.proofs.Chain.{goes-on, stops}
 use Rattle.frames.specs.Writing.{writing}
 use Rattle.frames.proofs.Facts.{numbers-small, size-small}
 use Rattle.frames.proofs.Writing.{Plain, plain-told, no-room, room-enough}
@@ -41,7 +41,7 @@ returns-2 c =
     let g = c .before .before .before .before .before .before .before .args in
     let h = past-plain (c .before .before) .size in
     record {
-      says = passes (c .before .before .before .before .check-plain .ensures) (c .before .before .enum-told .given .1)
+      says = goes-on (c .before .before .before .before .check-plain .ensures) (c .before .before .enum-told .given .1)
           (no-room (g .kind) (g .a) (g .b) _ _ (omega (arith, c .before .start-of .ensures .0)) (c .if1 .taken));
       writes = refl;
     }
@@ -64,7 +64,7 @@ returns-3 c =
     let g = c .before .before .before .before .before .before .before .before .before .before .before .args in
     let h = past-plain (c .before .before .before .before .before .before) .size in
     record {
-      says = passes (c .before .before .before .before .before .before .before .before .check-plain .ensures) (c .before .before .before .before .before .before .enum-told .given .1)
+      says = goes-on (c .before .before .before .before .before .before .before .before .check-plain .ensures) (c .before .before .before .before .before .before .enum-told .given .1)
           (room-enough (g .kind) (g .a) (g .b) _ _ (omega (arith, c .before .before .before .before .before .start-of .ensures .0)) (c .before .before .before .before .if1 .left));
       writes = c .before .before .put-frame .ensures;
     }

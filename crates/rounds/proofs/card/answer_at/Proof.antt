@@ -10,7 +10,7 @@ use Rattle.round.specs.Round.{pair, firstAnswer}
 use Rattle.algebra.specs.Lists.{over}
 use Rattle.algebra.specs.Residues.{modulus}
 use Rattle.algebra.proofs.Lists.{part-over}
-use Rattle.rounds.specs.Layout.{choiceAt}
+use Rattle.rounds.specs.Layout.{pairAt}
 use Rattle.rounds.proofs.Cuts.{own, vector-length}
 use Rattle.rounds.proofs.Runs.{answer-length}
 use Rattle.rounds.proofs.card.answer_at.Statement.{statement}
@@ -59,7 +59,7 @@ returns c =
     let π = g .args .pi .now in
     let ch = g .args .choices .now in
     let ask = getD (g .args .challenges .now) (g .args .k) 0 in
-    let x = choiceAt n ch (g .args .k) in
+    let x = pairAt n ch (g .args .k) in
     let l = answer-length modulus n v π ask x (g .pre .0 .key) (g .pre .0 .perm) in
     ap (putMid at (length d - at) d)
     (c .before .before .first-answer-into .ensures

@@ -9,7 +9,7 @@ use Rattle.round.specs.Round.{systemOf, pair, committed0, committed1}
 use Rattle.algebra.specs.Lists.{overAt}
 use Rattle.sha256.specs.Standard.{digestOf}
 use Rattle.sha256.proofs.Digest.{digest-length}
-use Rattle.rounds.specs.Layout.{choiceAt}
+use Rattle.rounds.specs.Layout.{pairAt}
 use Rattle.rounds.proofs.Cuts.{own, over-meet, vector-length}
 use Rattle.rounds.proofs.card.commit_at.Statement.{statement}
 use Rattle.rounds.proofs.card.commit_at.Tie as tie
@@ -62,7 +62,7 @@ returns c =
     let at = g .args .k * 64 in
     let s = systemOf (g .args .a .now) (g .args .n) (g .args .m) in
     let π = g .args .pi .now in
-    let x = choiceAt (g .args .n) (g .args .choices .now) (g .args .k) in
+    let x = pairAt (g .args .n) (g .args .choices .now) (g .args .k) in
     let z = c .before .before .before .before .before .before .before .before .before .before .before .commitment-zero .ensures ∙ ap₂ (λ (r σ : List ℕ). digestOf (committed0 s (pair r σ))) (c .before .before .before .before .before .before .before .before .before .before .before .before .before .vector-of .ensures) (c .before .before .before .before .before .before .before .before .before .before .before .before .permutation-of .ensures) in
     let o = c .before .before .before .before .before .before .before .before .before .before .commitment-one .ensures ∙ ap₂ (λ (r σ : List ℕ). digestOf (committed1 π (pair r σ))) (c .before .before .before .before .before .before .before .before .before .before .before .before .before .vector-of .ensures) (c .before .before .before .before .before .before .before .before .before .before .before .before .permutation-of .ensures) in
     c .before .before .copy-at2 .ensures

@@ -10,7 +10,7 @@ use borrow.Rule.Slice.PartMut.{putMid, midOf}
 use Rattle.round.specs.Round.{opening}
 use Rattle.algebra.specs.Lists.{over, overAt}
 use Rattle.algebra.proofs.Lists.{part-over}
-use Rattle.rounds.specs.Layout.{choiceAt}
+use Rattle.rounds.specs.Layout.{pairAt}
 use Rattle.rounds.proofs.Cuts.{own}
 use Rattle.rounds.proofs.Runs.{opening-length}
 use Rattle.rounds.proofs.card.open_at.Statement.{statement}
@@ -50,7 +50,7 @@ returns c =
     let d = g .args .out .now in
     let at = g .args .k * g .args .n in
     let π = g .args .pi .now in
-    let σ = choiceAt (g .args .n) (g .args .choices .now) (g .args .k) .permutation in
+    let σ = pairAt (g .args .n) (g .args .choices .now) (g .args .k) .permutation in
     let bit = c .before .before .before .before .bit-at .result in
     let l = opening-length (g .args .n) π bit σ (g .pre .0 .perm) in
     ap (putMid at (length d - at) d)
