@@ -76,6 +76,13 @@ class Draft:
         self.missing = 0
         self.extra = b""
 
+    @classmethod
+    def of(cls, frame):
+        """The draft of a well-formed frame."""
+        kind = frame[3]
+        start = start_of(kind)
+        return cls(kind, frame[4:start], frame[start:])
+
     def frame(self):
         body = bytes([self.version, self.kind, *self.numbers]) + self.rest
         whole = len(body).to_bytes(2, "big") + body
@@ -198,6 +205,59 @@ def reader(kind):
         inputs=lambda rng: [Given((), (frame,)) for frame in frames(rng, kind)],
         refusals=frame_refusals(kind),
     )
+
+
+# --- Frames lent together: a damage of all that is lent takes an object with the drafts by their kinds, `frames`, and an `rng` ---
+
+
+def to_frame(kind, damage):
+    """The damage of one frame as a damage of all that is lent."""
+    return lambda lent: damage(lent.frames[kind])
+
+
+def bytes_left(count):
+    def damage(draft):
+        draft.missing = len(draft.frame()) - count
+
+    return damage
+
+
+def other_number(kind, place):
+    """Makes a number differ from that of the other buffers, in a frame that is well formed by itself."""
+
+    def damage(lent):
+        draft = lent.frames[kind]
+        draft.numbers[place] += 1
+        draft.rest = bytearray(rest_of(lent.rng, kind, *pair(draft.numbers)))
+
+    return damage
+
+
+def in_frame(kind, place, byte):
+    """Puts a byte into the rest of a body."""
+
+    def damage(lent):
+        lent.frames[kind].rest[place] = byte
+
+    return damage
+
+
+def inside_frames(kinds):
+    """Every one and two damages of each frame, and its first bytes alone."""
+    for kind in kinds:
+        yield from every_damage([to_frame(kind, damage) for damage in FRAME_DAMAGES], list, at_once=2)
+        for count in (0, 3, 4):
+            yield [to_frame(kind, bytes_left(count))]
+
+
+def each_place(kind, numbers, told):
+    """Each of the bytes told at each place of a frame's rest."""
+    return [[in_frame(kind, place, byte)] for place in range(rest_size(kind, *pair(numbers))) for byte in told]
+
+
+def frame_order(kind, differing=()):
+    """The first refusal of a frame, those of numbers that differ from an earlier buffer's, at the places told, and the last refusal."""
+    return [to_frame(kind, one_missing), *(other_number(kind, place) for place in differing), to_frame(kind, byte_spoilt)]
 
 
 # --- Writers ---

@@ -4,7 +4,7 @@ from itertools import combinations
 from random import Random
 from typing import NamedTuple
 
-from signon import P, PERMUTATIONS, RESIDUES, Outcome, packed_size, rest_size
+from signon import P, PERMUTATIONS, RESIDUES, Outcome, kernel_vector, packed_size, public_of, rest_size, system_of
 
 LARGEST = 2**64 - 1
 
@@ -50,6 +50,27 @@ def rest_of(rng, kind, first, second):
         return packed_bits(rng, first)
     size = rest_size(kind, first, second)
     return residues(rng, size) if kind in RESIDUES else rng.randbytes(size)
+
+
+def valid_key(rng, n, m):
+    """The entries of a system, a public vector, and a permutation that is a valid key for it."""
+    entries, pi = residues(rng, m * (n - m)), permutation(rng, n)
+    x = kernel_vector(system_of(n, m, entries), residues(rng, n - m))
+    return entries, public_of(pi, x), pi
+
+
+class Highest(Random):
+    """Draws residues that are all 250."""
+
+    def randrange(self, limit):
+        return limit - 1
+
+
+class Lowest(Random):
+    """Draws residues that are all 0."""
+
+    def randrange(self, limit):
+        return 0
 
 
 def pair(numbers):
