@@ -1,0 +1,121 @@
+-- What a check that refuses nothing says of what is lent, as plain facts.
+use mathlib.Core.Path.{_≡_, refl, sym, _∙_, subst}
+use mathlib.Core.Bool.{true}
+use mathlib.Core.List.{List, []}
+use Prim.Native.Nat.{ℕ, _-_, _≤_}
+use native.Mathlib.Omega.{arith}
+use borrow.Author.Tests.{eqb-true, leb-true}
+use lib.Dec.{eqb, leb}
+use lib.ListN.{length, take, drop}
+use Rattle.refusals.specs.Number.{KEY, ROOM, SHAPE, STAGE}
+use Rattle.refusals.specs.Buffer.{SECRET, OUTPUT, NONE}
+use Rattle.refusals.specs.Told.{Told, done, fine, first, demand}
+use Rattle.refusals.proofs.Chain.{Passed, first-done, demand-done}
+use Rattle.algebra.specs.Residues.{modulus}
+use Rattle.algebra.specs.Permutations.{IsPerm}
+use Rattle.algebra.specs.Matrices.{keyFault, SystemFits}
+use Rattle.algebra.proofs.Lists.{length-stretch, stretch-fits}
+use Rattle.algebra.proofs.Matrices.{valid→}
+use Rattle.frames.specs.declared.kind.Kind.the-variants.{System, Public, Secret, Challenges, Bits}
+use Rattle.frames.specs.Kinds.{within, alone, ofPlaces, exactly, table}
+use Rattle.frames.specs.Reading.{firstOf, secondOf, restOf, reading}
+use Rattle.frames.specs.Choosing.{choiceSize, choiceOf, vectorOf, choicesCheck}
+use Rattle.frames.proofs.Facts.{test-holds, rest-done, within-told, rest-length, FrameFits, reading-told, first-asked}
+use Rattle.frames.proofs.Orders.{rest-part}
+use Rattle.frames.proofs.Passing.{system-fits}
+use Rattle.frames.proofs.Chosen.{values-told, permutation-told, choices-told}
+use Rattle.round.specs.Round.{ValidKey}
+use Rattle.rounds.specs.Layout.{AllWell}
+use Rattle.rounds.proofs.Cuts.{own, vector-length}
+use Rattle.card_checks.specs.declared.session.Session.{Session}
+use Rattle.card_checks.specs.Stages.{COMMITTED, ANSWERED}
+use Rattle.card_checks.specs.Keys.{Keys, placesOf, rowsOf, publicOf, secretOf, faultOf, framesCheck, validCheck}
+use Rattle.card_checks.specs.Lent.{FramesFit, matrixOf, LentFits}
+use Rattle.card_checks.specs.Asking.{staged, atRest, recordFits, keptFit, commitmentsSize, answersSize, openingsSize, restCheck, beginCheck, answerCheck, openCheck}
+use Rattle.card_checks.proofs.Records.{record-told, kept-told}
+
+-- ---- the frames
+
+frames-fit : (k : Keys) → FrameFits System alone (k .system) → FrameFits Public (ofPlaces (placesOf k)) (k .public) → FrameFits Secret (ofPlaces (placesOf k)) (k .secret)
+    → FramesFit k
+frames-fit k s p q =
+    let n = placesOf k in
+    let a = first-asked Secret (ofPlaces n) (k .secret) (q .form) n refl in
+    let l : length (secretOf k) ≡ n = rest-length Secret (ofPlaces n) (k .secret) (q .form) ∙ a in
+    record {
+      systemThere = s .form .there;
+      publicThere = p .form .there;
+      secretThere = q .form .there;
+      system = system-fits (k .system) s;
+      vector = rest-length Public (ofPlaces n) (k .public) (p .form) ∙ first-asked Public (ofPlaces n) (k .public) (p .form) n refl;
+      residues = values-told _ _ (publicOf k) (p .content .0) (p .content .1);
+      perm = subst (λ (z : ℕ). IsPerm z (secretOf k)) a (permutation-told _ (firstOf (k .secret)) _ (secretOf k) (q .content .0) (omega arith) (q .content .1));
+    }
+
+pub frames-told : (k : Keys) (v : List ℕ) → framesCheck k ≡ done v → FramesFit k
+unfolding framesCheck
+frames-told k v e =
+    let n = placesOf k in
+    let r3 : Told = first (reading Secret (ofPlaces n) (k .secret)) fine in
+    let r2 : Told = first (reading Public (ofPlaces n) (k .public)) r3 in
+    let a = first-done (reading System alone (k .system)) r2 v e in
+    let b = first-done (reading Public (ofPlaces n) (k .public)) r3 v (a .1) in
+    let c = first-done (reading Secret (ofPlaces n) (k .secret)) fine v (b .1) in
+    frames-fit k (reading-told System alone (k .system) (a .0 .0) (a .0 .1) .0) (reading-told Public (ofPlaces n) (k .public) (b .0 .0) (b .0 .1) .0)
+    (reading-told Secret (ofPlaces n) (k .secret) (c .0 .0) (c .0 .1) .0)
+
+-- ---- the key
+
+pub valid-told : (k : Keys) (v : List ℕ) → FramesFit k → validCheck k ≡ done v → ValidKey (matrixOf k) (publicOf k) (secretOf k)
+unfolding validCheck
+valid-told k v f e =
+    record {
+      perm = f .perm;
+      zero = valid→ modulus _ _ _ _ _ (eqb-true _ _ (demand-done (eqb (faultOf k) (rowsOf k)) KEY SECRET (faultOf k) v e));
+    }
+
+-- ---- the values lent, as the code cuts them
+
+abbrev from : ℕ → List ℕ → List ℕ
+from start s = take (length s - start) (drop start s)
+
+module _ (k : Keys) (n m : ℕ) (p : n ≡ placesOf k) (q : m ≡ rowsOf k) where
+  pub parts-fit : FramesFit k → SystemFits (from 6 (k .system)) n m
+      × IsPerm (length (from 5 (k .secret))) (from 5 (k .secret))
+      × (length (from 5 (k .secret)) ≡ n)
+      × (length (from 5 (k .public)) ≡ n)
+  parts-fit f =
+      rw (rest-part System (k .system) 6 refl, rest-part Public (k .public) 5 refl, rest-part Secret (k .secret) 5 refl, p, q)
+      (f .system, own (placesOf k) (secretOf k) (f .perm), f .perm .len, f .vector)
+
+  pub parts-fault : keyFault modulus (from 6 (k .system)) n m (from 5 (k .public)) (from 5 (k .secret)) ≡ faultOf k
+  parts-fault = rw (rest-part System (k .system) 6 refl, rest-part Public (k .public) 5 refl, rest-part Secret (k .secret) 5 refl, p, q)
+
+-- ---- the choices, KEY and ROOM
+
+pub rest-told : (k : Keys) (N : ℕ) (choices : List ℕ) (need room : ℕ) (v : List ℕ) → FramesFit k → 1 ≤ N → N ≤ 64 → restCheck k N choices need room ≡ done v
+    → LentFits k N choices × (need ≤ room)
+unfolding restCheck
+rest-told k N choices need room v f some most e =
+    let n = placesOf k in
+    let r3 : Told = demand (leb need room) ROOM OUTPUT need in
+    let r2 : Told = first (validCheck k) r3 in
+    let a = first-done (choicesCheck n N choices) r2 v e in
+    let b = first-done (validCheck k) r3 v (a .1) in
+    let c = choices-told n N choices (a .0 .0) (a .0 .1) in (
+      record {
+        frames = f;
+        some = some;
+        most = most;
+        valid = valid-told k (b .0 .0) f (b .0 .1);
+        well = record {
+          size = c .0;
+          each = λ j l. record {
+            size = vector-length n choices j (rw (c .0) (stretch-fits (choiceSize n) j N l));
+            residues = c .1 j l .residues;
+            perm = c .1 j l .perm;
+          };
+        };
+      },
+      leb-true _ _ (demand-done (leb need room) ROOM OUTPUT need v (b .1)),
+    )

@@ -1,0 +1,4 @@
+-- The laws of what the card asks, and examples.
+pub mod Facts
+pub mod Orders
+pub mod Records

@@ -1,0 +1,65 @@
+-- Laws of the orders of refusals, an answer each, as the code finds them.
+use mathlib.Core.Path.{_≡_, refl}
+use mathlib.Core.Bool.{Bool, true, false}
+use Prim.Native.Nat.{ℕ, _≤_, _<_}
+use borrow.Author.Tests.{eq-eqb, ne-eqb, lt-leb, le-leb}
+use lib.Dec.{leb}
+use Rattle.refusals.specs.declared.Refusal.{Refusal}
+use Rattle.refusals.specs.Number.{KEY, ROOM}
+use Rattle.refusals.specs.Buffer.{SECRET, OUTPUT}
+use Rattle.refusals.specs.Told.{Told, refused, fine, told, first, demand}
+use Rattle.frames.specs.declared.kind.Kind.the-variants.{System, Public, Secret}
+use Rattle.frames.specs.declared.read.Read.{Read}
+use Rattle.frames.specs.declared.read.Read.the-variants.{Frame, Refused as NotRead}
+use Rattle.frames.specs.Kinds.{alone, ofPlaces}
+use Rattle.frames.specs.Reading.{Reads}
+use Rattle.frames.proofs.Orders.{frame-goes-on, frame-stops}
+use Rattle.card_checks.specs.Keys.{Keys, placesOf, rowsOf, faultOf, framesCheck, validCheck}
+
+-- ---- links of a chain that are tests
+
+pub test-stops : (x y z : ℕ) (next : Told) {test : Bool} → test ≡ false → refused x y z ≡ first (demand test x y z) next
+test-stops x y z next e = rw e
+
+pub test-goes-on : (x y z : ℕ) {next a : Told} {test : Bool} → test ≡ true → a ≡ next → a ≡ first (demand test x y z) next
+test-goes-on x y z e q = rw e q
+
+-- ---- buffers 1, 2, 3
+
+module _ (k : Keys) (r : Read) (m : Reads System alone (k .system) r) where
+  pub bad-system : (x : Refusal) → r ≡ NotRead x → told x ≡ framesCheck k
+  unfolding framesCheck
+  bad-system x e = frame-stops _ (m .says) e
+
+  module _ (x y z : ℕ) (e : r ≡ Frame x y z) (p : Read) (g : Reads Public (ofPlaces (placesOf k)) (k .public) p) where
+    pub bad-public : (x : Refusal) → p ≡ NotRead x → told x ≡ framesCheck k
+    unfolding framesCheck
+    bad-public x f = frame-goes-on (m .says) e (frame-stops _ (g .says) f)
+
+    module _ (x′ y′ z′ : ℕ) (f : p ≡ Frame x′ y′ z′) (q : Read) (h : Reads Secret (ofPlaces (placesOf k)) (k .secret) q) where
+      pub bad-secret : (x : Refusal) → q ≡ NotRead x → told x ≡ framesCheck k
+      unfolding framesCheck
+      bad-secret x i = frame-goes-on (m .says) e (frame-goes-on (g .says) f (frame-stops _ (h .says) i))
+
+      pub good-frames : (x y z : ℕ) → q ≡ Frame x y z → fine ≡ framesCheck k
+      unfolding framesCheck
+      good-frames x y z i = frame-goes-on (m .says) e (frame-goes-on (g .says) f (frame-goes-on (h .says) i refl))
+
+-- ---- KEY; `fault` and `rows` are what the code works out
+
+module _ (k : Keys) (fault rows : ℕ) (e : fault ≡ faultOf k) (q : rows ≡ rowsOf k) where
+  pub bad-key : (fault ≡ rows → ⊥) → refused KEY SECRET fault ≡ validCheck k
+  unfolding validCheck
+  bad-key f = rw (← e, ← q, ne-eqb fault rows f)
+
+  pub good-key : fault ≡ rows → fine ≡ validCheck k
+  unfolding validCheck
+  good-key f = rw (← e, ← q, eq-eqb fault rows f)
+
+-- ---- ROOM
+
+pub no-room : (need room : ℕ) → room < need → refused ROOM OUTPUT need ≡ demand (leb need room) ROOM OUTPUT need
+no-room need room l = rw (lt-leb need room l)
+
+pub room-enough : (need room : ℕ) → need ≤ room → fine ≡ demand (leb need room) ROOM OUTPUT need
+room-enough need room l = rw (le-leb need room l)

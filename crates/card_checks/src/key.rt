@@ -1,0 +1,57 @@
+// The frames of system, public key and secret key, and whether the key is valid.
+use algebra::matrix::key_fault;
+use frames::kind::Kind;
+use frames::kind::of_places;
+use frames::read::Read;
+use frames::read::read_frame;
+use frames::read::read_system;
+use frames::wide;
+use refusals::Checked;
+use refusals::buffer::SECRET;
+use refusals::number::KEY;
+use refusals::refuse;
+ghost use mathlib.Core.Path.{_≡_};
+ghost use Rattle.refusals.specs.Told.{means};
+ghost use Rattle.card_checks.specs.Keys.{keys, framesCheck, validCheck, ChecksKey};
+ghost use Rattle.card_checks.specs.Lent.{FramesFit};
+
+// Buffers 1, 2, 3; n is the system's.
+pub fn check_frames(system: &[u8], public: &[u8], secret: &[u8]) -> Checked
+    ensures { λ r. ⌜ means r ≡ framesCheck (keys (now (system .entry)) (now (public .entry)) (now (secret .entry))) ⌝ }
+{
+    if let Read::Refused(x) = read_system(system) {
+        return Checked::Refused(x);
+    }
+    let n = wide(system[4]);
+    if let Read::Refused(x) = read_frame(Kind::Public, of_places(n), public) {
+        return Checked::Refused(x);
+    }
+    if let Read::Refused(x) = read_frame(Kind::Secret, of_places(n), secret) {
+        return Checked::Refused(x);
+    }
+    Checked::Fine
+}
+
+// KEY.
+pub fn check_valid(system: &[u8], public: &[u8], secret: &[u8]) -> Checked
+    requires { ⌜ FramesFit (keys (now system) (now public) (now secret)) ⌝ }
+    ensures { λ r. ⌜ means r ≡ validCheck (keys (now (system .entry)) (now (public .entry)) (now (secret .entry))) ⌝ }
+{
+    let n = wide(system[4]);
+    let m = wide(system[5]);
+    let fault = key_fault(&system[6..], n, m, &public[5..], &secret[5..]);
+    if fault != m {
+        return refuse(KEY, SECRET, fault);
+    }
+    Checked::Fine
+}
+
+// The key check.
+pub fn check_key(system: &[u8], public: &[u8], secret: &[u8]) -> Checked
+    ensures { λ r. ⌜ ChecksKey (keys (now (system .entry)) (now (public .entry)) (now (secret .entry))) r ⌝ }
+{
+    if let Checked::Refused(x) = check_frames(system, public, secret) {
+        return Checked::Refused(x);
+    }
+    check_valid(system, public, secret)
+}

@@ -1,0 +1,4 @@
+// What the card asks of its record and of what it is lent, in document 01's order.
+pub mod key;
+pub mod order;
+pub mod session;
