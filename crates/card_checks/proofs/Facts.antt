@@ -2,11 +2,11 @@
 use mathlib.Core.Path.{_≡_, refl, sym, _∙_, subst}
 use mathlib.Core.Bool.{true}
 use mathlib.Core.List.{List, []}
-use Prim.Native.Nat.{ℕ, _-_, _≤_}
+use Prim.Native.Nat.{ℕ, _-_, _≤_, _<_}
 use native.Mathlib.Omega.{arith}
 use borrow.Author.Tests.{eqb-true, leb-true}
 use lib.Dec.{eqb, leb}
-use lib.ListN.{length, take, drop}
+use lib.ListN.{length, getD, take, drop}
 use Rattle.refusals.specs.Number.{KEY, ROOM, SHAPE, STAGE}
 use Rattle.refusals.specs.Buffer.{SECRET, OUTPUT, NONE}
 use Rattle.refusals.specs.Told.{Told, done, fine, first, demand}
@@ -119,3 +119,93 @@ rest-told k N choices need room v f some most e =
       },
       leb-true _ _ (demand-done (leb need room) ROOM OUTPUT need v (b .1)),
     )
+
+-- ---- begin, answer and open
+
+pub record BeginFits (s : Session) (N : ℕ) (k : Keys) (choices : List ℕ) (room : ℕ) : Type 0 where
+  pub stage : atRest (s .stage) ≡ true
+  pub lent : LentFits k N choices
+  pub enough : commitmentsSize N ≤ room
+
+pub begin-told : (s : Session) (N : ℕ) (k : Keys) (choices : List ℕ) (room : ℕ) (v : List ℕ) → beginCheck s N k choices room ≡ done v → BeginFits s N k choices room
+unfolding beginCheck
+begin-told s N k choices room v e =
+    let r4 : Told = restCheck k N choices (commitmentsSize N) room in
+    let r3 : Told = first (framesCheck k) r4 in
+    let r2 : Told = first (demand (within (alone .rounds) N) SHAPE NONE 0) r3 in
+    let e2 = rest-done (atRest (s .stage)) STAGE NONE 0 r2 v e in
+    let w = within-told (alone .rounds) N (test-holds (within (alone .rounds) N) SHAPE NONE 0 r3 v e2) in
+    let f = first-done (framesCheck k) r4 v (rest-done (within (alone .rounds) N) SHAPE NONE 0 r3 v e2) in
+    let t = rest-told k N choices (commitmentsSize N) room v (frames-told k (f .0 .0) (f .0 .1)) (w .0) (w .1) (f .1) in
+    record { stage = test-holds (atRest (s .stage)) STAGE NONE 0 r2 v e; lent = t .0; enough = t .1 }
+
+pub record AnswerFits (s : Session) (k : Keys) (message choices : List ℕ) (room : ℕ) : Type 0 where
+  pub stage : s .stage ≡ COMMITTED
+  pub places : s .n ≡ placesOf k
+  pub rows : s .m ≡ rowsOf k
+  pub sent : FrameFits Challenges (exactly (placesOf k) (s .rounds)) message
+  pub lent : LentFits k (s .rounds) choices
+  pub enough : answersSize (placesOf k) (s .rounds) ≤ room
+
+pub answer-told : (s : Session) (k : Keys) (message choices : List ℕ) (room : ℕ) (v : List ℕ) → answerCheck s k message choices room ≡ done v
+    → AnswerFits s k message choices room
+unfolding answerCheck
+answer-told s k message choices room v e =
+    let n = placesOf k in
+    let N = s .rounds in
+    let t1 = eqb (s .stage) COMMITTED in
+    let t3 = recordFits s n (rowsOf k) in
+    let r5 : Told = restCheck k N choices (answersSize n N) room in
+    let r4 : Told = first (reading Challenges (exactly n N) message) r5 in
+    let r3 : Told = first (staged t3) r4 in
+    let r2 : Told = first (framesCheck k) r3 in
+    let f = first-done (framesCheck k) r3 v (rest-done t1 STAGE NONE 0 r2 v e) in
+    let h = record-told s n (rowsOf k) (test-holds t3 STAGE NONE 0 r4 v (f .1)) in
+    let m = first-done (reading Challenges (exactly n N) message) r5 v (rest-done t3 STAGE NONE 0 r4 v (f .1)) in
+    let t = rest-told k N choices (answersSize n N) room v (frames-told k (f .0 .0) (f .0 .1)) (h .2) (h .3) (m .1) in
+    record {
+      stage = eqb-true _ _ (test-holds t1 STAGE NONE 0 r2 v e);
+      places = h .0;
+      rows = h .1;
+      sent = reading-told Challenges (exactly n N) message (m .0 .0) (m .0 .1) .0;
+      lent = t .0;
+      enough = t .1;
+    }
+
+pub record OpenFits (s : Session) (k : Keys) (message choices : List ℕ) (room : ℕ) : Type 0 where
+  pub stage : s .stage ≡ ANSWERED
+  pub places : s .n ≡ placesOf k
+  pub rows : s .m ≡ rowsOf k
+  pub kept : (j : ℕ) → j < s .rounds → getD (s .challenges) j 0 < modulus
+  pub sent : FrameFits Bits (exactly (placesOf k) (s .rounds)) message
+  pub lent : LentFits k (s .rounds) choices
+  pub enough : openingsSize (placesOf k) (s .rounds) ≤ room
+
+pub open-told : (s : Session) (k : Keys) (message choices : List ℕ) (room : ℕ) (v : List ℕ) → openCheck s k message choices room ≡ done v
+    → OpenFits s k message choices room
+unfolding openCheck
+open-told s k message choices room v e =
+    let n = placesOf k in
+    let N = s .rounds in
+    let t1 = eqb (s .stage) ANSWERED in
+    let t3 = recordFits s n (rowsOf k) in
+    let t4 = keptFit N (s .challenges) in
+    let r6 : Told = restCheck k N choices (openingsSize n N) room in
+    let r5 : Told = first (reading Bits (exactly n N) message) r6 in
+    let r4 : Told = first (staged t4) r5 in
+    let r3 : Told = first (staged t3) r4 in
+    let r2 : Told = first (framesCheck k) r3 in
+    let f = first-done (framesCheck k) r3 v (rest-done t1 STAGE NONE 0 r2 v e) in
+    let h = record-told s n (rowsOf k) (test-holds t3 STAGE NONE 0 r4 v (f .1)) in
+    let e4 = rest-done t3 STAGE NONE 0 r4 v (f .1) in
+    let m = first-done (reading Bits (exactly n N) message) r6 v (rest-done t4 STAGE NONE 0 r5 v e4) in
+    let t = rest-told k N choices (openingsSize n N) room v (frames-told k (f .0 .0) (f .0 .1)) (h .2) (h .3) (m .1) in
+    record {
+      stage = eqb-true _ _ (test-holds t1 STAGE NONE 0 r2 v e);
+      places = h .0;
+      rows = h .1;
+      kept = kept-told N (s .challenges) (test-holds t4 STAGE NONE 0 r5 v e4);
+      sent = reading-told Bits (exactly n N) message (m .0 .0) (m .0 .1) .0;
+      lent = t .0;
+      enough = t .1;
+    }

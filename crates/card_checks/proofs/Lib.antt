@@ -2,3 +2,4 @@
 pub mod Facts
 pub mod Orders
 pub mod Records
+pub mod Outcomes

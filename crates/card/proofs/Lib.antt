@@ -1,0 +1,2 @@
+-- The laws of the card's steps, and examples.
+pub mod Own

@@ -1,0 +1,3 @@
+-- What the card's calls tell, keep and write.
+pub mod Own
+pub mod Steps

@@ -1,0 +1,91 @@
+// Answer: all first answers are written, and the challenges kept.
+use crate::Step;
+use algebra::output::copy_into;
+use card_checks::order::check_answer;
+use card_checks::session::ANSWERED;
+use card_checks::session::Session;
+use frames::kind::Kind;
+use frames::wide;
+use frames::write::Written;
+use frames::write::put_heading;
+use refusals::Checked;
+use rounds::card::answer_all;
+ghost use mathlib.Core.Path.{_≡_};
+ghost use Prim.Native.Nat.{_≤_};
+ghost use lib.ListN.{length};
+ghost use Rattle.algebra.specs.Lists.{over, joined};
+ghost use Rattle.algebra.specs.Residues.{modulus};
+ghost use Rattle.frames.specs.Writing.{frame};
+ghost use Rattle.rounds.specs.Layout.{CardFits};
+ghost use Rattle.rounds.specs.Rounds.{answerAt};
+ghost use Rattle.card_checks.specs.Keys.{keys};
+ghost use Rattle.card_checks.specs.Asking.{answersSize};
+ghost use Rattle.card.specs.Steps.{answered, AnswerStep};
+
+// Writes the frame of all first answers, for which there is room.
+fn put_answers(
+    v: &[u8],
+    pi: &[u8],
+    n: usize,
+    rounds: usize,
+    challenges: &[u8],
+    choices: &[u8],
+    out: &mut [u8],
+)
+    requires { ⌜ CardFits n rounds (now v) (now pi) (now choices) × (n ≤ 64) × (rounds ≤ 64) × (rounds ≤ length (now challenges)) × (answersSize n rounds ≤ length (now out)) ⌝ }
+    ensures { λ _. ⌜ now (out .exit) ≡ over (frame Kind.Answers n rounds (joined rounds (answerAt modulus n (now (v .entry)) (now (pi .entry)) (now (challenges .entry)) (now (choices .entry))))) (now (out .entry)) ⌝ }
+{
+    put_heading(Kind::Answers, n, rounds, n * rounds, out);
+    answer_all(v, pi, n, rounds, challenges, choices, &mut out[6..]);
+}
+
+// The record with the challenges kept.
+fn with_challenges(session: Session, challenges: &[u8]) -> Session
+    requires { ⌜ length (now challenges) ≤ 64 ⌝ }
+    ensures { λ r. ⌜ r ≡ answered session (now (challenges .entry)) ⌝ }
+{
+    let mut kept = session.challenges;
+    copy_into(challenges, &mut kept);
+    Session {
+        stage: ANSWERED,
+        n: session.n,
+        m: session.m,
+        rounds: session.rounds,
+        challenges: kept,
+    }
+}
+
+// From committed to answered.
+pub fn answer_step(
+    session: Session,
+    system: &[u8],
+    public: &[u8],
+    secret: &[u8],
+    message: &[u8],
+    choices: &[u8],
+    out: &mut [u8],
+) -> Step
+    ensures { λ r. ⌜ AnswerStep session (keys (now (system .entry)) (now (public .entry)) (now (secret .entry))) (now (message .entry)) (now (choices .entry)) (now (out .entry)) r (now (out .exit)) ⌝ }
+{
+    if let Checked::Refused(x) = check_answer(session, system, public, secret, message, choices, out.len()) {
+        return Step {
+            told: Written::Refused(x),
+            next: session,
+        };
+    }
+    let n = wide(system[4]);
+    let rounds = wide(session.rounds);
+    put_answers(
+        &public[5..],
+        &secret[5..],
+        n,
+        rounds,
+        &message[5..],
+        choices,
+        out,
+    );
+    Step {
+        told: Written::Wrote(6 + n * rounds),
+        next: with_challenges(session, &message[5..]),
+    }
+}

@@ -1,0 +1,81 @@
+// Begin: all commitments are written.
+use crate::Step;
+use card_checks::order::check_begin;
+use card_checks::session::COMMITTED;
+use card_checks::session::Session;
+use frames::kind::Kind;
+use frames::wide;
+use frames::write::Written;
+use frames::write::put_heading;
+use refusals::Checked;
+use rounds::card::commit_all;
+ghost use mathlib.Core.Path.{_≡_};
+ghost use Prim.Native.Nat.{_≤_};
+ghost use lib.ListN.{length};
+ghost use Rattle.algebra.specs.Lists.{over, joined};
+ghost use Rattle.algebra.specs.Matrices.{SystemFits};
+ghost use Rattle.frames.specs.Writing.{frame};
+ghost use Rattle.round.specs.Round.{systemOf};
+ghost use Rattle.rounds.specs.Layout.{CardFits};
+ghost use Rattle.rounds.specs.Rounds.{commitmentsAt};
+ghost use Rattle.card_checks.specs.Keys.{keys};
+ghost use Rattle.card_checks.specs.Asking.{commitmentsSize};
+ghost use Rattle.card.specs.Steps.{BeginStep};
+
+// Writes the frame of all commitments, for which there is room.
+fn put_commitments(
+    a: &[u8],
+    n: usize,
+    m: usize,
+    pi: &[u8],
+    rounds: usize,
+    choices: &[u8],
+    out: &mut [u8],
+)
+    requires { ⌜ SystemFits (now a) n m × CardFits n rounds (now pi) (now pi) (now choices) × (rounds ≤ 64) × (commitmentsSize rounds ≤ length (now out)) ⌝ }
+    ensures { λ _. ⌜ now (out .exit) ≡ over (frame Kind.Commitments rounds 0 (joined rounds (commitmentsAt (systemOf (now (a .entry)) n m) (now (pi .entry)) (now (choices .entry))))) (now (out .entry)) ⌝ }
+{
+    put_heading(Kind::Commitments, rounds, 0, 64 * rounds, out);
+    commit_all(a, n, m, pi, rounds, choices, &mut out[5..]);
+}
+
+// From idle or closed to committed.
+pub fn begin_step(
+    session: Session,
+    rounds: usize,
+    system: &[u8],
+    public: &[u8],
+    secret: &[u8],
+    choices: &[u8],
+    out: &mut [u8],
+) -> Step
+    ensures { λ r. ⌜ BeginStep session rounds (keys (now (system .entry)) (now (public .entry)) (now (secret .entry))) (now (choices .entry)) (now (out .entry)) r (now (out .exit)) ⌝ }
+{
+    if let Checked::Refused(x) = check_begin(session, rounds, system, public, secret, choices, out.len()) {
+        return Step {
+            told: Written::Refused(x),
+            next: session,
+        };
+    }
+    let n = system[4];
+    let m = system[5];
+    put_commitments(
+        &system[6..],
+        wide(n),
+        wide(m),
+        &secret[5..],
+        rounds,
+        choices,
+        out,
+    );
+    Step {
+        told: Written::Wrote(5 + 64 * rounds),
+        next: Session {
+            stage: COMMITTED,
+            n: n,
+            m: m,
+            rounds: rounds as u8,
+            challenges: [0u8; 64],
+        },
+    }
+}
