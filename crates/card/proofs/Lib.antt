@@ -1,2 +1,3 @@
 -- The laws of the card's steps, and examples.
 pub mod Own
+pub mod Parts

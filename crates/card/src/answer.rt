@@ -39,13 +39,23 @@ fn put_answers(
     answer_all(v, pi, n, rounds, challenges, choices, &mut out[6..]);
 }
 
+// The challenges kept: the new ones over the first of those before.
+fn keep(before: [u8; 64], challenges: &[u8]) -> [u8; 64]
+    requires { ⌜ length (now challenges) ≤ 64 ⌝ }
+    ensures { λ r. ⌜ r ≡ over (now (challenges .entry)) before ⌝ }
+{
+    let mut kept = before;
+    copy_into(challenges, &mut kept);
+    kept
+}
+
 // The record with the challenges kept.
 fn with_challenges(session: Session, challenges: &[u8]) -> Session
     requires { ⌜ length (now challenges) ≤ 64 ⌝ }
     ensures { λ r. ⌜ r ≡ answered session (now (challenges .entry)) ⌝ }
 {
-    let mut kept = session.challenges;
-    copy_into(challenges, &mut kept);
+    let before = session.challenges;
+    let kept = keep(before, challenges);
     Session {
         stage: ANSWERED,
         n: session.n,

@@ -57,7 +57,7 @@ fn check_own(
         &secret[5..],
         rounds,
         choices,
-        &kept,
+        kept,
         &message[5..],
     );
     if failing != rounds {

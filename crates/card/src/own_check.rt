@@ -29,7 +29,7 @@ fn commitment_of(
     r: &[u8],
     sigma: &[u8],
 ) -> [u8; 32]
-    requires { ⌜ SystemFits (now a) n m × IsPerm (length (now pi)) (now pi) × IsPerm (length (now sigma)) (now sigma) × (length (now pi) ≡ n) × (length (now sigma) ≡ n) × (length (now r) ≡ n) ⌝ }
+    requires { ⌜ SystemFits (now a) n m × IsPerm n (now pi) × IsPerm n (now sigma) × (length (now r) ≡ n) ⌝ }
     ensures { λ d. ⌜ d ≡ digestOf (committed (systemOf (now (a .entry)) n m) (now (pi .entry)) bit (pair (now (r .entry)) (now (sigma .entry)))) ⌝ }
 {
     if bit {
@@ -52,7 +52,7 @@ fn own_round_with(
     w: &mut [u8],
     theta: &mut [u8],
 ) -> bool
-    requires { ⌜ SystemFits (now a) n m × (length (now v) ≡ n) × (c < modulus) × IsPerm (length (now pi)) (now pi) × IsPerm (length (now sigma)) (now sigma) × (length (now pi) ≡ n) × (length (now sigma) ≡ n) × (length (now r) ≡ n) × (n ≤ length (now w)) × (n ≤ length (now theta)) ⌝ }
+    requires { ⌜ SystemFits (now a) n m × (length (now v) ≡ n) × (c < modulus) × IsPerm n (now pi) × IsPerm n (now sigma) × (length (now r) ≡ n) × (n ≤ length (now w)) × (n ≤ length (now theta)) ⌝ }
     ensures { λ b. ⌜ b ≡ ownPasses (systemOf (now (a .entry)) n m) (now (v .entry)) (now (pi .entry)) c bit (pair (now (r .entry)) (now (sigma .entry))) ⌝ }
 {
     let commitment = commitment_of(bit, a, n, m, pi, r, sigma);
@@ -73,7 +73,7 @@ fn own_round_passes(
     r: &[u8],
     sigma: &[u8],
 ) -> bool
-    requires { ⌜ SystemFits (now a) n m × (length (now v) ≡ n) × (c < modulus) × IsPerm (length (now pi)) (now pi) × IsPerm (length (now sigma)) (now sigma) × (length (now pi) ≡ n) × (length (now sigma) ≡ n) × (length (now r) ≡ n) ⌝ }
+    requires { ⌜ SystemFits (now a) n m × (length (now v) ≡ n) × (c < modulus) × IsPerm n (now pi) × IsPerm n (now sigma) × (length (now r) ≡ n) ⌝ }
     ensures { λ b. ⌜ b ≡ ownPasses (systemOf (now (a .entry)) n m) (now (v .entry)) (now (pi .entry)) c bit (pair (now (r .entry)) (now (sigma .entry))) ⌝ }
 {
     let mut w = [0u8; LONGEST];
@@ -90,11 +90,11 @@ pub fn own_failing(
     pi: &[u8],
     rounds: usize,
     choices: &[u8],
-    challenges: &[u8],
+    challenges: [u8; 64],
     bits: &[u8],
 ) -> usize
-    requires { ⌜ SystemFits (now a) n m × CardFits n rounds (now v) (now pi) (now choices) × ((j : ℕ) → j < rounds → getD (now challenges) j 0 < modulus) × (rounds ≤ length (now challenges)) × (rounds ≤ 8 * length (now bits)) ⌝ }
-    ensures { λ r. ⌜ r ≡ ownFailing (systemOf (now (a .entry)) n m) (now (v .entry)) (now (pi .entry)) rounds (now (choices .entry)) (now (challenges .entry)) (now (bits .entry)) ⌝ }
+    requires { ⌜ SystemFits (now a) n m × CardFits n rounds (now v) (now pi) (now choices) × (rounds ≤ 64) × ((j : ℕ) → j < rounds → getD challenges j 0 < modulus) × (rounds ≤ 8 * length (now bits)) ⌝ }
+    ensures { λ r. ⌜ r ≡ ownFailing (systemOf (now (a .entry)) n m) (now (v .entry)) (now (pi .entry)) rounds (now (choices .entry)) challenges (now (bits .entry)) ⌝ }
 {
     let mut k: usize = 0;
     while k < rounds {

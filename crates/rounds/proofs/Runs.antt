@@ -41,6 +41,11 @@ unfolding opening
 opening-length n π false σ h = h .len
 opening-length n π true σ h = length-under n π σ h
 
+pub opening-perm : (n : ℕ) (π : List ℕ) (bit : Bool) (σ : List ℕ) → IsPerm n π → IsPerm n σ → IsPerm n (opening π bit σ)
+unfolding opening
+opening-perm n π false σ key h = h
+opening-perm n π true σ key h = compose-perm n π σ key h
+
 -- the half of a bit is the commitment of that bit
 half-honest : (s : System) (v π : List ℕ) (c : ℕ) (b bit : Bool) (x : Pair)
     → half bit (digestOf (committed0 s x) ++ digestOf (committed1 π x)) ≡ commitmentOf bit (honest s v π c b x)

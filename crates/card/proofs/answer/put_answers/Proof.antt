@@ -1,18 +1,29 @@
+-- `put_answers` meets its contract: the heading, and the body behind it.
+use mathlib.Core.Path.{_≡_, refl, sym, ap, _∙_}
+use Prim.Native.Nat.{_-_, _*_}
+use native.Mathlib.Omega.{arith}
 use borrow.Author.Needs.{needs}
+use native.Mathlib.Nat.{mul-comm}
+use lib.ListN.{length, getD}
+use borrow.Rule.Slice.PartMut.{putMid}
+use Rattle.algebra.proofs.Lists.{length-joined}
+use Rattle.algebra.specs.Lists.{joined}
+use Rattle.algebra.specs.Residues.{modulus}
+use Rattle.card.proofs.Parts.{body-written}
+use Rattle.frames.proofs.Facts.{size-small}
+use Rattle.frames.specs.declared.kind.Kind.the-variants.{Answers}
+use Rattle.rounds.proofs.Runs.{answer-length}
+use Rattle.rounds.specs.Layout.{pairAt}
+use Rattle.rounds.specs.Rounds.{answerAt}
 use Rattle.card.proofs.answer.put_answers.Statement.{statement}
 use Rattle.card.proofs.answer.put_answers.Tie as tie
-use Rattle.card.proofs.answer.put_answers.Reads as reads
-use Rattle.card.proofs.answer.put_answers.Lts as lts
-use Rattle.frames.proofs.write.put_heading.Reads as put-heading-reads
-use Rattle.rounds.proofs.card.answer_all.Reads as answer-all-reads
 
--- src/answer.rt:38:43
 mul-put-heading : tie.Need-mul-put-heading
-mul-put-heading c = search needs
+mul-put-heading c = let h = c .before .before .before .before .before .pre in let s = size-small Answers _ _ (h .1) (h .2) in omega arith
 
 -- src/answer.rt:38:5
 put-heading-requires : tie.Need-put-heading-requires
-put-heading-requires c κs = ?
+put-heading-requires c κs = let h = c .before .before .before .before .before .before .pre in let s = size-small Answers _ _ (h .1) (h .2) in (omega arith, omega arith, omega arith, omega arith)
 
 -- src/answer.rt:39:55
 sub-answer-all : tie.Need-sub-answer-all
@@ -36,7 +47,12 @@ same-length c = search needs
 
 -- src/answer.rt:26:1
 returns : tie.Need-returns
-returns c = ?
+returns c =
+    let g = c .before .before .before .before .before .before .before .before .before .before .before .before .before .args in let f = answerAt modulus (g .n) (g .v .now) (g .pi .now) (g .challenges .now) (g .choices .now) in
+    let e : length (joined (g .rounds) f) ≡ g .rounds * (g .n) = length-joined (g .n) (g .rounds) f (λ j l. answer-length modulus (g .n) (g .v .now) (g .pi .now) (getD (g .challenges .now) j 0) (pairAt (g .n) (g .choices .now) j) (c .before .before .before .before .before .before .before .before .before .before .before .before .before .pre .0 .each j l .key) (c .before .before .before .before .before .before .before .before .before .before .before .before .before .pre .0 .each j l .perm)) in
+    let d = c .before .before .before .before .before .before .put-heading .last .1 .1 .1 .1 .0 in
+    ap (putMid 6 (length d - 6) d) (c .before .before .answer-all .ensures)
+    ∙ body-written Answers (g .n) (g .rounds) (joined (g .rounds) f) (g .out .now) d 6 _ refl (mul-comm (g .n) (g .rounds) ∙ sym e) (c .before .before .before .before .before .before .put-heading .ensures) (let k = c .before .before .before .before .before .before .put-heading .kept .1 .1 .1 .1 .0 in let h = c .before .before .before .before .before .before .before .before .before .before .before .before .before .pre in omega (arith, mul-comm (g .n) (g .rounds)))
 
 pub put-answers-spec : {M : Type 1} → statement M
 put-answers-spec =

@@ -1,21 +1,20 @@
+-- `with_challenges` meets its contract: the first challenges are replaced.
+use mathlib.Core.Path.{ap}
+use mathlib.Core.List.{List}
+use Prim.Native.Nat.{ℕ}
 use borrow.Author.Needs.{needs}
+use Rattle.card_checks.specs.Stages.{ANSWERED}
+use Rattle.card.specs.Steps.{answered}
 use Rattle.card.proofs.answer.with_challenges.Statement.{statement}
 use Rattle.card.proofs.answer.with_challenges.Tie as tie
-use Rattle.card.proofs.answer.with_challenges.Reads as reads
-use Rattle.card.proofs.answer.with_challenges.Lts as lts
-use Rattle.algebra.proofs.output.copy_into.Reads as copy-into-reads
 
--- src/answer.rt:48:27
-slice-aggregate-copy-into : tie.Need-slice-aggregate-copy-into
-slice-aggregate-copy-into c = search needs
+keep-requires : tie.Need-keep-requires
+keep-requires c κs = search needs
 
--- src/answer.rt:48:5
-copy-into-requires : tie.Need-copy-into-requires
-copy-into-requires c κs = ?
-
--- src/answer.rt:43:1
+-- src/answer.rt:53:1
 returns : tie.Need-returns
-returns c = ?
+unfolding answered
+returns c = ap (λ (l : List ℕ). record { stage = ANSWERED; n = c .before .before .before .args .session .n; m = c .before .before .before .args .session .m; rounds = c .before .before .before .args .session .rounds; challenges = l }) (c .keep .ensures)
 
 pub with-challenges-spec : {M : Type 1} → statement M
-with-challenges-spec = tie.close (tie.spec slice-aggregate-copy-into copy-into-requires returns)
+with-challenges-spec = tie.close (tie.spec keep-requires returns)

@@ -1,18 +1,27 @@
+-- `put_commitments` meets its contract: the heading, and the body behind it.
+use mathlib.Core.Path.{_≡_, refl, sym, ap, _∙_}
+use Prim.Native.Nat.{_-_, _*_}
+use native.Mathlib.Omega.{arith}
 use borrow.Author.Needs.{needs}
+use native.Mathlib.Nat.{mul-comm}
+use lib.ListN.{length}
+use borrow.Rule.Slice.PartMut.{putMid}
+use Rattle.algebra.proofs.Lists.{length-joined}
+use Rattle.algebra.specs.Lists.{joined}
+use Rattle.card.proofs.Parts.{body-written}
+use Rattle.frames.specs.declared.kind.Kind.the-variants.{Commitments}
+use Rattle.round.specs.Round.{systemOf}
+use Rattle.rounds.proofs.Runs.{commitments-length}
+use Rattle.rounds.specs.Rounds.{commitmentsAt}
 use Rattle.card.proofs.begin.put_commitments.Statement.{statement}
 use Rattle.card.proofs.begin.put_commitments.Tie as tie
-use Rattle.card.proofs.begin.put_commitments.Reads as reads
-use Rattle.card.proofs.begin.put_commitments.Lts as lts
-use Rattle.frames.proofs.write.put_heading.Reads as put-heading-reads
-use Rattle.rounds.proofs.card.commit_all.Reads as commit-all-reads
 
--- src/begin.rt:38:47
 mul-put-heading : tie.Need-mul-put-heading
-mul-put-heading c = search needs
+mul-put-heading c = let h = c .before .before .before .before .pre in omega arith
 
 -- src/begin.rt:38:5
 put-heading-requires : tie.Need-put-heading-requires
-put-heading-requires c κs = search needs
+put-heading-requires c κs = let h = c .before .before .before .before .before .pre in search needs
 
 -- src/begin.rt:39:46
 sub-commit-all : tie.Need-sub-commit-all
@@ -36,7 +45,12 @@ same-length c = search needs
 
 -- src/begin.rt:26:1
 returns : tie.Need-returns
-returns c = ?
+returns c =
+    let g = c .before .before .before .before .before .before .before .before .before .before .before .before .args in let f = commitmentsAt (systemOf (g .a .now) (g .n) (g .m)) (g .pi .now) (g .choices .now) in
+    let e : length (joined (g .rounds) f) ≡ g .rounds * 64 = length-joined 64 (g .rounds) f (λ j l. commitments-length _ (g .pi .now) (g .choices .now) j) in
+    let d = c .before .before .before .before .before .before .put-heading .last .1 .1 .1 .1 .0 in
+    ap (putMid 5 (length d - 5) d) (c .before .before .commit-all .ensures)
+    ∙ body-written Commitments (g .rounds) 0 (joined (g .rounds) f) (g .out .now) d 5 _ refl (mul-comm 64 (g .rounds) ∙ sym e) (c .before .before .before .before .before .before .put-heading .ensures) (let k = c .before .before .before .before .before .before .put-heading .kept .1 .1 .1 .1 .0 in let h = c .before .before .before .before .before .before .before .before .before .before .before .before .pre in omega (arith, mul-comm (g .n) (g .rounds)))
 
 pub put-commitments-spec : {M : Type 1} → statement M
 put-commitments-spec =

@@ -1,18 +1,28 @@
+-- `put_openings` meets its contract: the heading, and the body behind it.
+use mathlib.Core.Path.{_≡_, refl, sym, ap, _∙_}
+use Prim.Native.Nat.{_-_, _*_}
+use native.Mathlib.Omega.{arith}
 use borrow.Author.Needs.{needs}
+use native.Mathlib.Nat.{mul-comm}
+use lib.ListN.{length}
+use borrow.Rule.Slice.PartMut.{putMid}
+use Rattle.algebra.proofs.Lists.{length-joined}
+use Rattle.algebra.specs.Lists.{joined}
+use Rattle.card.proofs.Parts.{body-written}
+use Rattle.frames.proofs.Facts.{size-small}
+use Rattle.frames.specs.PackedBits.{bitAt}
+use Rattle.frames.specs.declared.kind.Kind.the-variants.{Openings}
+use Rattle.rounds.proofs.Runs.{opening-length}
+use Rattle.rounds.specs.Rounds.{openingAt}
 use Rattle.card.proofs.open.put_openings.Statement.{statement}
 use Rattle.card.proofs.open.put_openings.Tie as tie
-use Rattle.card.proofs.open.put_openings.Reads as reads
-use Rattle.card.proofs.open.put_openings.Lts as lts
-use Rattle.frames.proofs.write.put_heading.Reads as put-heading-reads
-use Rattle.rounds.proofs.card.open_all.Reads as open-all-reads
 
--- src/open.rt:34:44
 mul-put-heading : tie.Need-mul-put-heading
-mul-put-heading c = search needs
+mul-put-heading c = let h = c .before .before .before .before .pre in let s = size-small Openings _ _ (h .1) (h .2) in omega arith
 
 -- src/open.rt:34:5
 put-heading-requires : tie.Need-put-heading-requires
-put-heading-requires c κs = ?
+put-heading-requires c κs = let h = c .before .before .before .before .before .pre in let s = size-small Openings _ _ (h .1) (h .2) in (omega arith, omega arith, omega arith, omega arith)
 
 -- src/open.rt:35:44
 sub-open-all : tie.Need-sub-open-all
@@ -36,7 +46,12 @@ same-length c = search needs
 
 -- src/open.rt:30:1
 returns : tie.Need-returns
-returns c = ?
+returns c =
+    let g = c .before .before .before .before .before .before .before .before .before .before .before .before .args in let f = openingAt (g .n) (g .pi .now) (g .bits .now) (g .choices .now) in
+    let e : length (joined (g .rounds) f) ≡ g .rounds * (g .n) = length-joined (g .n) (g .rounds) f (λ j l. opening-length (g .n) (g .pi .now) (bitAt (g .bits .now) j) _ (c .before .before .before .before .before .before .before .before .before .before .before .before .pre .0 .each j l .perm)) in
+    let d = c .before .before .before .before .before .before .put-heading .last .1 .1 .1 .1 .0 in
+    ap (putMid 6 (length d - 6) d) (c .before .before .open-all .ensures)
+    ∙ body-written Openings (g .n) (g .rounds) (joined (g .rounds) f) (g .out .now) d 6 _ refl (mul-comm (g .n) (g .rounds) ∙ sym e) (c .before .before .before .before .before .before .put-heading .ensures) (let k = c .before .before .before .before .before .before .put-heading .kept .1 .1 .1 .1 .0 in let h = c .before .before .before .before .before .before .before .before .before .before .before .before .pre in omega (arith, mul-comm (g .n) (g .rounds)))
 
 pub put-openings-spec : {M : Type 1} → statement M
 put-openings-spec =

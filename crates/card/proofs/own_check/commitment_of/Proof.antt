@@ -1,26 +1,26 @@
-use borrow.Author.Needs.{needs}
+-- `commitment_of` meets its contract: C0 or C1.
+use native.Mathlib.Omega.{arith}
+use Rattle.card.specs.Own.{committed}
+use Rattle.rounds.proofs.Cuts.{own}
 use Rattle.card.proofs.own_check.commitment_of.Statement.{statement}
 use Rattle.card.proofs.own_check.commitment_of.Tie as tie
-use Rattle.card.proofs.own_check.commitment_of.Reads as reads
-use Rattle.card.proofs.own_check.commitment_of.Lts as lts
-use Rattle.round.proofs.card.commitment_one.Reads as commitment-one-reads
-use Rattle.round.proofs.card.commitment_zero.Reads as commitment-zero-reads
 
--- src/own_check.rt:36:9
 commitment-one-requires : tie.Need-commitment-one-requires
-commitment-one-requires c κs = search needs
+commitment-one-requires c κs = let g = c .before .before .before .before .before .pre in let s = g .0 .most in let a = g .1 .len in let b = g .2 .len in (own _ _ (g .1), own _ _ (g .2), omega arith, omega arith, omega arith)
 
 -- src/own_check.rt:36:9
 returns : tie.Need-returns
-returns c = ?
+unfolding committed
+returns c = rw (c .before .if1 .taken) (c .commitment-one .ensures)
 
 -- src/own_check.rt:38:5
 commitment-zero-requires : tie.Need-commitment-zero-requires
-commitment-zero-requires c κs = search needs
+commitment-zero-requires c κs = let g = c .before .before .before .before .before .pre in (g .0, g .3, g .2 .len)
 
 -- src/own_check.rt:23:1
 returns-2 : tie.Need-returns-2
-returns-2 c = ?
+unfolding committed
+returns-2 c = rw (c .before .if1 .left) (c .commitment-zero .ensures)
 
 pub commitment-of-spec : {M : Type 1} → statement M
 commitment-of-spec =
