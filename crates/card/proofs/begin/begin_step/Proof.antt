@@ -1,13 +1,26 @@
+-- `begin_step` meets its contract: nothing is written before the last check.
+use mathlib.Core.Path.{refl, sym, ap, _∙_}
+use mathlib.Core.List.{List, []}
+use Prim.Native.Nat.{ℕ}
+use native.Mathlib.Omega.{arith}
 use borrow.Author.Needs.{needs}
+use lib.ListN.{length}
+use Rattle.algebra.specs.Lists.{over}
+use Rattle.card_checks.proofs.Facts.{BeginFits, begin-told}
+use Rattle.card_checks.specs.Keys.{keys}
+use Rattle.card.proofs.Parts.{commitments-formed, key-parts, system-part}
+use Rattle.card.specs.Steps.{beginTold, begun}
+use Rattle.frames.specs.Writing.{frame}
+use Rattle.frames.specs.declared.kind.Kind.the-variants.{Commitments}
+use Rattle.refusals.proofs.Chain.{goes-on, stops}
+use Rattle.refusals.specs.Told.{means}
 use Rattle.card.proofs.begin.begin_step.Statement.{statement}
 use Rattle.card.proofs.begin.begin_step.Tie as tie
-use Rattle.card.proofs.begin.begin_step.Reads as reads
-use Rattle.card.proofs.begin.begin_step.Lts as lts
-use Rattle.card.proofs.begin.put_commitments.Reads as put-commitments-reads
-use Rattle.card_checks.proofs.order.check_begin.Reads as check-begin-reads
-use Rattle.frames.proofs.wide.Reads as wide-reads
 
--- src/begin.rt:54:34
+-- past the checks
+past : (c : tie.After-enum-told) → BeginFits (c .before .before .before .before .before .before .before .before .args .session) (c .before .before .before .before .before .before .before .before .args .rounds) (keys (c .before .before .before .before .before .before .before .before .args .system .now) (c .before .before .before .before .before .before .before .before .args .public .now) (c .before .before .before .before .before .before .before .before .args .secret .now)) (c .before .before .before .before .before .before .before .before .args .choices .now) (length (c .before .before .before .before .before .before .before .before .args .out .now))
+past c = begin-told _ _ _ _ _ [] (sym (c .before .before .check-begin .ensures) ∙ ap means (c .enum-told .given .1))
+
 check-begin-requires : tie.Need-check-begin-requires
 check-begin-requires c κs = search needs
 
@@ -17,26 +30,27 @@ enum-known-x c = search needs
 
 -- src/begin.rt:55:9
 returns : tie.Need-returns
-returns c = ?
+unfolding beginTold
+returns c = record { says = stops _ (c .before .before .before .check-begin .ensures) (c .before .x .given .1); moves = refl; writes = refl }
 
 enum-told : tie.Need-enum-told
 enum-told c = search needs
 
 -- src/begin.rt:60:13
 shared-slice-read-n : tie.Need-shared-slice-read-n
-shared-slice-read-n c = ?
+shared-slice-read-n c = let t = past (c .before) .lent .frames .systemThere in omega arith
 
 -- src/begin.rt:61:13
 shared-slice-read-m : tie.Need-shared-slice-read-m
-shared-slice-read-m c = ?
+shared-slice-read-m c = let t = past (c .before .before) .lent .frames .systemThere in omega arith
 
 -- src/begin.rt:63:9
 sub-put-commitments : tie.Need-sub-put-commitments
-sub-put-commitments c = ?
+sub-put-commitments c = let t = past (c .before .before) .lent .frames .systemThere in omega arith
 
 -- src/begin.rt:63:9
 part-put-commitments-start : tie.Need-part-put-commitments-start
-part-put-commitments-start c = ?
+part-put-commitments-start c = let t = past (c .before .before) .lent .frames .systemThere in omega arith
 
 -- src/begin.rt:63:9
 part-put-commitments-end : tie.Need-part-put-commitments-end
@@ -52,11 +66,11 @@ wide-requires-2 c κs = search needs
 
 -- src/begin.rt:66:9
 sub-put-commitments-2 : tie.Need-sub-put-commitments-2
-sub-put-commitments-2 c = ?
+sub-put-commitments-2 c = let t = past (c .before .before .before .before .before) .lent .frames .secretThere in omega arith
 
 -- src/begin.rt:66:9
 part-put-commitments-start-2 : tie.Need-part-put-commitments-start-2
-part-put-commitments-start-2 c = ?
+part-put-commitments-start-2 c = let t = past (c .before .before .before .before .before) .lent .frames .secretThere in omega arith
 
 -- src/begin.rt:66:9
 part-put-commitments-end-2 : tie.Need-part-put-commitments-end-2
@@ -64,19 +78,21 @@ part-put-commitments-end-2 c = search needs
 
 -- src/begin.rt:62:5
 put-commitments-requires : tie.Need-put-commitments-requires
-put-commitments-requires c κs = ?
+put-commitments-requires c κs =
+    let g = c .before .before .before .before .before .before .before .before .before .before .before .before .before .before .before .args in let h = past (c .before .before .before .before .before .before .before) in let k = keys (g .system .now) (g .public .now) (g .secret .now) in
+    (system-part k _ _ (h .lent) _ _ (c .before .before .before .wide .ensures .0) (c .before .before .wide2 .ensures .0), key-parts k _ _ (h .lent) _ _ (c .before .before .before .wide .ensures .0) (c .before .before .wide2 .ensures .0), h .lent .most, h .enough)
 
 -- src/begin.rt:72:34
 mul-t12 : tie.Need-mul-t12
-mul-t12 c = ?
+mul-t12 c = let t = past (c .before .before .before .before .before .before .before .before .before .before) .lent .most in omega arith
 
 -- src/begin.rt:72:30
 add-t24 : tie.Need-add-t24
-add-t24 c = ?
+add-t24 c = let t = past (c .before .before .before .before .before .before .before .before .before .before) .lent .most in omega arith
 
 -- src/begin.rt:77:21
 cast-t15 : tie.Need-cast-t15
-cast-t15 c = ?
+cast-t15 c = let t = past (c .before .before .before .before .before .before .before .before .before .before) .lent .most in omega arith
 
 -- src/begin.rt:43:1
 same-length : tie.Need-same-length
@@ -84,7 +100,14 @@ same-length c = search needs
 
 -- src/begin.rt:43:1
 returns-2 : tie.Need-returns-2
-returns-2 c = ?
+unfolding beginTold begun
+returns-2 c =
+    let g = c .before .before .before .before .before .before .before .before .before .before .before .before .before .before .before .before .before .before .args in let h = past (c .before .before .before .before .before .before .before .before .before .before) in let k = keys (g .system .now) (g .public .now) (g .secret .now) in
+    record {
+      says = goes-on (c .before .before .before .before .before .before .before .before .before .before .before .before .check-begin .ensures) (c .before .before .before .before .before .before .before .before .before .before .enum-told .given .1) refl;
+      moves = refl;
+      writes = c .before .before .put-commitments .ensures ∙ ap (λ (l : List ℕ). over (frame Commitments (g .rounds) 0 l) (g .out .now)) (commitments-formed k _ _ (h .lent) _ _ (c .before .before .before .before .before .before .wide .ensures .0) (c .before .before .before .before .before .wide2 .ensures .0));
+    }
 
 pub begin-step-spec : {M : Type 1} → statement M
 begin-step-spec =
