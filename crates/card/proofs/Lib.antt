@@ -1,3 +1,4 @@
 -- The laws of the card's steps, and examples.
 pub mod Own
 pub mod Parts
+pub mod Opening

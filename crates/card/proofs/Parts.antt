@@ -42,19 +42,19 @@ card-fits k N choices v h e =
     record {
       few = omega arith;
       each = λ j l.
-      record {
-        most = h .frames .system .most;
-        few = omega arith;
-        vector = e;
-        key = h .frames .perm;
-        there = rw s (stretch-fits (choiceSize (placesOf k)) j N l);
-        perm = h .well .each j l .perm;
-      };
+          record {
+            most = h .frames .system .most;
+            few = omega arith;
+            vector = e;
+            key = h .frames .perm;
+            there = rw s (stretch-fits (choiceSize (placesOf k)) j N l);
+            perm = h .well .each j l .perm;
+          };
     }
 
 -- ---- the values lent, as the code cuts them
 
-abbrev from : ℕ → List ℕ → List ℕ
+abbrev pub from : ℕ → List ℕ → List ℕ
 from start s = take (length s - start) (drop start s)
 
 module _ (k : Keys) (N : ℕ) (choices : List ℕ) (h : LentFits k N choices) (n m : ℕ) (p : n ≡ placesOf k) (q : m ≡ rowsOf k) where

@@ -77,7 +77,15 @@ pub fn answer_step(
 ) -> Step
     ensures { λ r. ⌜ AnswerStep session (keys (now (system .entry)) (now (public .entry)) (now (secret .entry))) (now (message .entry)) (now (choices .entry)) (now (out .entry)) r (now (out .exit)) ⌝ }
 {
-    if let Checked::Refused(x) = check_answer(session, system, public, secret, message, choices, out.len()) {
+    if let Checked::Refused(x) = check_answer(
+        session,
+        system,
+        public,
+        secret,
+        message,
+        choices,
+        out.len(),
+    ) {
         return Step {
             told: Written::Refused(x),
             next: session,

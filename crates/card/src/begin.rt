@@ -51,7 +51,15 @@ pub fn begin_step(
 ) -> Step
     ensures { λ r. ⌜ BeginStep session rounds (keys (now (system .entry)) (now (public .entry)) (now (secret .entry))) (now (choices .entry)) (now (out .entry)) r (now (out .exit)) ⌝ }
 {
-    if let Checked::Refused(x) = check_begin(session, rounds, system, public, secret, choices, out.len()) {
+    if let Checked::Refused(x) = check_begin(
+        session,
+        rounds,
+        system,
+        public,
+        secret,
+        choices,
+        out.len(),
+    ) {
         return Step {
             told: Written::Refused(x),
             next: session,

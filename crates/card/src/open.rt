@@ -78,7 +78,15 @@ fn check_all(
 ) -> Checked
     ensures { λ r. ⌜ means r ≡ openRefusal session (keys (now (system .entry)) (now (public .entry)) (now (secret .entry))) (now (message .entry)) (now (choices .entry)) room ⌝ }
 {
-    if let Checked::Refused(x) = check_open(session, system, public, secret, message, choices, room) {
+    if let Checked::Refused(x) = check_open(
+        session,
+        system,
+        public,
+        secret,
+        message,
+        choices,
+        room,
+    ) {
         return Checked::Refused(x);
     }
     check_own(session, system, public, secret, message, choices)

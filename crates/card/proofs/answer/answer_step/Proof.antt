@@ -141,8 +141,8 @@ returns-2 c =
       says = goes-on (c .before .before .before .before .before .before .before .before .before .before .before .before .before .before .check-answer .ensures) (c .before .before .before .before .before .before .before .before .before .before .before .before .enum-told .given .1) (rw (c .before .before .before .before .before .before .before .before .before .before .wide .ensures .0, c .before .before .before .before .before .before .before .before .before .wide2 .ensures .0));
       moves = c .with-challenges .ensures ∙ ap (answered (g .session)) (rest-part Challenges (g .message .now) 5 refl);
       writes =
-      rw (c .before .before .before .before .before .before .before .before .before .before .wide .ensures .0, c .before .before .before .before .before .before .before .before .before .wide2 .ensures .0) at (c .before .before .before .before .put-answers .ensures)
-      ∙ ap (λ (l : List ℕ). over (frame Answers n (g .session .rounds) l) (g .out .now)) (answers-formed k _ _ (h .lent) _ _ refl refl (g .message .now));
+          rw (c .before .before .before .before .before .before .before .before .before .before .wide .ensures .0, c .before .before .before .before .before .before .before .before .before .wide2 .ensures .0) at (c .before .before .before .before .put-answers .ensures)
+          ∙ ap (λ (l : List ℕ). over (frame Answers n (g .session .rounds) l) (g .out .now)) (answers-formed k _ _ (h .lent) _ _ refl refl (g .message .now));
     }
 
 pub answer-step-spec : {M : Type 1} → statement M

@@ -1,12 +1,15 @@
+-- `check_all` meets its contract: the checks, then SELF.
+use mathlib.Core.Path.{sym, ap, _∙_}
+use mathlib.Core.List.{[]}
 use borrow.Author.Needs.{needs}
+use Rattle.card_checks.proofs.Facts.{open-told}
+use Rattle.card.proofs.Opening.{open-ready}
+use Rattle.card.specs.Steps.{openRefusal}
+use Rattle.refusals.proofs.Chain.{goes-on, stops}
+use Rattle.refusals.specs.Told.{means}
 use Rattle.card.proofs.open.check_all.Statement.{statement}
 use Rattle.card.proofs.open.check_all.Tie as tie
-use Rattle.card.proofs.open.check_all.Reads as reads
-use Rattle.card.proofs.open.check_all.Lts as lts
-use Rattle.card.proofs.open.check_own.Reads as check-own-reads
-use Rattle.card_checks.proofs.order.check_open.Reads as check-open-reads
 
--- src/open.rt:81:34
 check-open-requires : tie.Need-check-open-requires
 check-open-requires c κs = search needs
 
@@ -16,18 +19,20 @@ enum-known-x c = search needs
 
 -- src/open.rt:82:9
 returns : tie.Need-returns
-returns c = ?
+unfolding openRefusal
+returns c = stops _ (c .before .before .before .check-open .ensures) (c .before .x .given .1)
 
 enum-told : tie.Need-enum-told
 enum-told c = search needs
 
 -- src/open.rt:84:5
 check-own-requires : tie.Need-check-own-requires
-check-own-requires c κs = ?
+check-own-requires c κs = open-ready _ _ _ _ _ (open-told _ _ _ _ _ [] (sym (c .before .before .check-open .ensures) ∙ ap means (c .enum-told .given .1)))
 
 -- src/open.rt:70:1
 returns-2 : tie.Need-returns-2
-returns-2 c = ?
+unfolding openRefusal
+returns-2 c = goes-on (c .before .before .before .check-open .ensures) (c .before .enum-told .given .1) (c .check-own .ensures)
 
 pub check-all-spec : {M : Type 1} → statement M
 check-all-spec =

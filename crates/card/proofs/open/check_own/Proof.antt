@@ -1,23 +1,25 @@
+-- `check_own` meets its contract: the rounds formed anew, and the first that does not pass.
+use mathlib.Core.Path.{refl, _∙_}
+use native.Mathlib.Omega.{arith}
 use borrow.Author.Needs.{needs}
+use Rattle.card_checks.specs.Keys.{keys}
+use Rattle.card.proofs.Opening.{faulty-formed, own-fails, own-holds}
+use Rattle.card.proofs.Parts.{card-parts, system-part}
+use Rattle.frames.proofs.Orders.{rest-part}
+use Rattle.frames.specs.declared.kind.Kind.the-variants.{Bits}
 use Rattle.card.proofs.open.check_own.Statement.{statement}
 use Rattle.card.proofs.open.check_own.Tie as tie
-use Rattle.card.proofs.open.check_own.Reads as reads
-use Rattle.card.proofs.open.check_own.Lts as lts
-use Rattle.card.proofs.own_check.own_failing.Reads as own-failing-reads
-use Rattle.frames.proofs.wide.Reads as wide-reads
-use Rattle.refusals.proofs.refuse.Reads as refuse-reads
 
--- src/open.rt:50:9
 wide-requires : tie.Need-wide-requires
 wide-requires c κs = search needs
 
 -- src/open.rt:53:9
 sub-own-failing : tie.Need-sub-own-failing
-sub-own-failing c = search needs
+sub-own-failing c = let t = c .before .before .before .before .before .before .before .pre .lent .frames .systemThere in omega arith
 
 -- src/open.rt:53:9
 part-own-failing-start : tie.Need-part-own-failing-start
-part-own-failing-start c = search needs
+part-own-failing-start c = let t = c .before .before .before .before .before .before .before .pre .lent .frames .systemThere in omega arith
 
 -- src/open.rt:53:9
 part-own-failing-end : tie.Need-part-own-failing-end
@@ -25,7 +27,7 @@ part-own-failing-end c = search needs
 
 -- src/open.rt:54:14
 shared-slice-read-wide : tie.Need-shared-slice-read-wide
-shared-slice-read-wide c = search needs
+shared-slice-read-wide c = let t = c .before .before .before .before .before .before .before .before .before .pre .lent .frames .systemThere in omega arith
 
 -- src/open.rt:54:9
 wide-requires-2 : tie.Need-wide-requires-2
@@ -33,7 +35,7 @@ wide-requires-2 c κs = search needs
 
 -- src/open.rt:55:14
 shared-slice-read-wide-2 : tie.Need-shared-slice-read-wide-2
-shared-slice-read-wide-2 c = search needs
+shared-slice-read-wide-2 c = let t = c .before .before .before .before .before .before .before .before .before .before .before .pre .lent .frames .systemThere in omega arith
 
 -- src/open.rt:55:9
 wide-requires-3 : tie.Need-wide-requires-3
@@ -41,11 +43,11 @@ wide-requires-3 c κs = search needs
 
 -- src/open.rt:56:9
 sub-own-failing-2 : tie.Need-sub-own-failing-2
-sub-own-failing-2 c = search needs
+sub-own-failing-2 c = let t = c .before .before .before .before .before .before .before .before .before .before .before .before .pre .lent .frames .publicThere in omega arith
 
 -- src/open.rt:56:9
 part-own-failing-start-2 : tie.Need-part-own-failing-start-2
-part-own-failing-start-2 c = search needs
+part-own-failing-start-2 c = let t = c .before .before .before .before .before .before .before .before .before .before .before .before .pre .lent .frames .publicThere in omega arith
 
 -- src/open.rt:56:9
 part-own-failing-end-2 : tie.Need-part-own-failing-end-2
@@ -53,11 +55,11 @@ part-own-failing-end-2 c = search needs
 
 -- src/open.rt:57:9
 sub-own-failing-3 : tie.Need-sub-own-failing-3
-sub-own-failing-3 c = search needs
+sub-own-failing-3 c = let t = c .before .before .before .before .before .before .before .before .before .before .before .before .before .pre .lent .frames .secretThere in omega arith
 
 -- src/open.rt:57:9
 part-own-failing-start-3 : tie.Need-part-own-failing-start-3
-part-own-failing-start-3 c = search needs
+part-own-failing-start-3 c = let t = c .before .before .before .before .before .before .before .before .before .before .before .before .before .pre .lent .frames .secretThere in omega arith
 
 -- src/open.rt:57:9
 part-own-failing-end-3 : tie.Need-part-own-failing-end-3
@@ -65,11 +67,11 @@ part-own-failing-end-3 c = search needs
 
 -- src/open.rt:61:9
 sub-own-failing-4 : tie.Need-sub-own-failing-4
-sub-own-failing-4 c = search needs
+sub-own-failing-4 c = let t = c .before .before .before .before .before .before .before .before .before .before .before .before .before .before .pre .there in omega arith
 
 -- src/open.rt:61:9
 part-own-failing-start-4 : tie.Need-part-own-failing-start-4
-part-own-failing-start-4 c = search needs
+part-own-failing-start-4 c = let t = c .before .before .before .before .before .before .before .before .before .before .before .before .before .before .pre .there in omega arith
 
 -- src/open.rt:61:9
 part-own-failing-end-4 : tie.Need-part-own-failing-end-4
@@ -77,7 +79,9 @@ part-own-failing-end-4 c = search needs
 
 -- src/open.rt:52:9
 own-failing-requires : tie.Need-own-failing-requires
-own-failing-requires c κs = ?
+own-failing-requires c κs =
+    let g = c .before .before .before .before .before .before .before .before .before .before .before .before .before .before .before .args in let h = c .before .before .before .before .before .before .before .before .before .before .before .before .before .before .before .pre in let k = keys (g .system .now) (g .public .now) (g .secret .now) in
+    rw (c .before .before .before .before .before .before .before .before .before .wide .ensures .0, c .before .before .before .before .before .wide2 .ensures .0, c .before .before .before .wide3 .ensures .0, rest-part Bits (g .message .now) 5 refl) (system-part k _ _ (h .lent) _ _ refl refl, card-parts k _ _ (h .lent) _ _ refl refl, h .lent .most, h .kept, h .bits)
 
 -- src/open.rt:64:9
 refuse-requires : tie.Need-refuse-requires
@@ -85,11 +89,15 @@ refuse-requires c κs = search needs
 
 -- src/open.rt:64:9
 returns : tie.Need-returns
-returns c = ?
+returns c =
+    let g = c .before .before .before .before .before .before .before .before .before .before .before .before .before .before .before .before .before .before .args in let k = keys (g .system .now) (g .public .now) (g .secret .now) in
+    c .refuse .ensures ∙ own-fails (g .session) k (g .message .now) (g .choices .now) _ _ (c .before .before .own-failing .ensures ∙ faulty-formed (g .session) k (g .message .now) (g .choices .now) _ _ _ (c .before .before .before .before .before .before .before .before .wide2 .ensures .0) (c .before .before .before .before .before .before .wide3 .ensures .0) (c .before .before .before .before .before .before .before .before .before .before .before .before .wide .ensures .0)) (c .before .before .before .before .before .before .before .before .before .before .before .before .wide .ensures .0) (c .before .if1 .taken)
 
 -- src/open.rt:39:1
 returns-2 : tie.Need-returns-2
-returns-2 c = ?
+returns-2 c =
+    let g = c .before .before .before .before .before .before .before .before .before .before .before .before .before .before .before .before .before .args in let k = keys (g .system .now) (g .public .now) (g .secret .now) in
+    own-holds (g .session) k (g .message .now) (g .choices .now) _ _ (c .before .own-failing .ensures ∙ faulty-formed (g .session) k (g .message .now) (g .choices .now) _ _ _ (c .before .before .before .before .before .before .before .wide2 .ensures .0) (c .before .before .before .before .before .wide3 .ensures .0) (c .before .before .before .before .before .before .before .before .before .before .before .wide .ensures .0)) (c .before .before .before .before .before .before .before .before .before .before .before .wide .ensures .0) (c .if1 .left)
 
 pub check-own-spec : {M : Type 1} → statement M
 check-own-spec =
