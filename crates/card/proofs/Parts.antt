@@ -43,10 +43,10 @@ card-fits k N choices v h e =
       few = omega arith;
       each = λ j l.
           record {
-            most = h .frames .system .most;
+            most = h .keys .system .most;
             few = omega arith;
             vector = e;
-            key = h .frames .perm;
+            key = h .keys .perm;
             there = rw s (stretch-fits (choiceSize (placesOf k)) j N l);
             perm = h .well .each j l .perm;
           };
@@ -59,14 +59,14 @@ from start s = take (length s - start) (drop start s)
 
 module _ (k : Keys) (N : ℕ) (choices : List ℕ) (h : LentFits k N choices) (n m : ℕ) (p : n ≡ placesOf k) (q : m ≡ rowsOf k) where
   pub system-part : SystemFits (from 6 (k .system)) n m
-  system-part = rw (rest-part System (k .system) 6 refl, p, q) (h .frames .system)
+  system-part = rw (rest-part System (k .system) 6 refl, p, q) (h .keys .system)
 
   -- with V, and with no vector
   pub card-parts : CardFits n N (from 5 (k .public)) (from 5 (k .secret)) choices
-  card-parts = rw (rest-part Public (k .public) 5 refl, rest-part Secret (k .secret) 5 refl, p) (card-fits k N choices (publicOf k) h (h .frames .vector))
+  card-parts = rw (rest-part Public (k .public) 5 refl, rest-part Secret (k .secret) 5 refl, p) (card-fits k N choices (publicOf k) h (h .keys .vector))
 
   pub key-parts : CardFits n N (from 5 (k .secret)) (from 5 (k .secret)) choices
-  key-parts = rw (rest-part Secret (k .secret) 5 refl, p) (card-fits k N choices (secretOf k) h (h .frames .perm .len))
+  key-parts = rw (rest-part Secret (k .secret) 5 refl, p) (card-fits k N choices (secretOf k) h (h .keys .perm .len))
 
   pub commitments-formed : joined N (commitmentsAt (systemOf (from 6 (k .system)) n m) (from 5 (k .secret)) choices) ≡ commitmentsOf N k choices
   unfolding commitmentsOf

@@ -29,16 +29,16 @@ use Rattle.rounds.specs.Layout.{AllWell}
 use Rattle.rounds.proofs.Cuts.{own, vector-length}
 use Rattle.card_checks.specs.declared.session.Session.{Session}
 use Rattle.card_checks.specs.Stages.{COMMITTED, ANSWERED}
-use Rattle.card_checks.specs.Keys.{Keys, placesOf, rowsOf, publicOf, secretOf, faultOf, framesCheck, validCheck}
-use Rattle.card_checks.specs.Lent.{FramesFit, matrixOf, LentFits}
+use Rattle.card_checks.specs.Keys.{Keys, placesOf, rowsOf, publicOf, secretOf, faultOf, keysCheck, validCheck}
+use Rattle.card_checks.specs.Lent.{KeysFit, matrixOf, LentFits}
 use Rattle.card_checks.specs.Asking.{staged, atRest, recordFits, keptFit, commitmentsSize, answersSize, openingsSize, restCheck, beginCheck, answerCheck, openCheck}
 use Rattle.card_checks.proofs.Records.{record-told, kept-told}
 
 -- ---- the frames
 
-frames-fit : (k : Keys) → FrameFits System alone (k .system) → FrameFits Public (ofPlaces (placesOf k)) (k .public) → FrameFits Secret (ofPlaces (placesOf k)) (k .secret)
-    → FramesFit k
-frames-fit k s p q =
+keys-fit : (k : Keys) → FrameFits System alone (k .system) → FrameFits Public (ofPlaces (placesOf k)) (k .public) → FrameFits Secret (ofPlaces (placesOf k)) (k .secret)
+    → KeysFit k
+keys-fit k s p q =
     let n = placesOf k in
     let a = first-asked Secret (ofPlaces n) (k .secret) (q .form) n refl in
     let l : length (secretOf k) ≡ n = rest-length Secret (ofPlaces n) (k .secret) (q .form) ∙ a in
@@ -52,21 +52,21 @@ frames-fit k s p q =
       perm = subst (λ (z : ℕ). IsPerm z (secretOf k)) a (permutation-told _ (firstOf (k .secret)) _ (secretOf k) (q .content .0) (omega arith) (q .content .1));
     }
 
-pub frames-told : (k : Keys) (v : List ℕ) → framesCheck k ≡ done v → FramesFit k
-unfolding framesCheck
-frames-told k v e =
+pub keys-told : (k : Keys) (v : List ℕ) → keysCheck k ≡ done v → KeysFit k
+unfolding keysCheck
+keys-told k v e =
     let n = placesOf k in
     let r3 : Told = first (reading Secret (ofPlaces n) (k .secret)) fine in
     let r2 : Told = first (reading Public (ofPlaces n) (k .public)) r3 in
     let a = first-done (reading System alone (k .system)) r2 v e in
     let b = first-done (reading Public (ofPlaces n) (k .public)) r3 v (a .1) in
     let c = first-done (reading Secret (ofPlaces n) (k .secret)) fine v (b .1) in
-    frames-fit k (reading-told System alone (k .system) (a .0 .0) (a .0 .1) .0) (reading-told Public (ofPlaces n) (k .public) (b .0 .0) (b .0 .1) .0)
+    keys-fit k (reading-told System alone (k .system) (a .0 .0) (a .0 .1) .0) (reading-told Public (ofPlaces n) (k .public) (b .0 .0) (b .0 .1) .0)
     (reading-told Secret (ofPlaces n) (k .secret) (c .0 .0) (c .0 .1) .0)
 
 -- ---- the key
 
-pub valid-told : (k : Keys) (v : List ℕ) → FramesFit k → validCheck k ≡ done v → ValidKey (matrixOf k) (publicOf k) (secretOf k)
+pub valid-told : (k : Keys) (v : List ℕ) → KeysFit k → validCheck k ≡ done v → ValidKey (matrixOf k) (publicOf k) (secretOf k)
 unfolding validCheck
 valid-told k v f e =
     record {
@@ -80,7 +80,7 @@ abbrev from : ℕ → List ℕ → List ℕ
 from start s = take (length s - start) (drop start s)
 
 module _ (k : Keys) (n m : ℕ) (p : n ≡ placesOf k) (q : m ≡ rowsOf k) where
-  pub parts-fit : FramesFit k → SystemFits (from 6 (k .system)) n m
+  pub parts-fit : KeysFit k → SystemFits (from 6 (k .system)) n m
       × IsPerm (length (from 5 (k .secret))) (from 5 (k .secret))
       × (length (from 5 (k .secret)) ≡ n)
       × (length (from 5 (k .public)) ≡ n)
@@ -93,7 +93,7 @@ module _ (k : Keys) (n m : ℕ) (p : n ≡ placesOf k) (q : m ≡ rowsOf k) wher
 
 -- ---- the choices, KEY and ROOM
 
-pub rest-told : (k : Keys) (N : ℕ) (choices : List ℕ) (need room : ℕ) (v : List ℕ) → FramesFit k → 1 ≤ N → N ≤ 64 → restCheck k N choices need room ≡ done v
+pub rest-told : (k : Keys) (N : ℕ) (choices : List ℕ) (need room : ℕ) (v : List ℕ) → KeysFit k → 1 ≤ N → N ≤ 64 → restCheck k N choices need room ≡ done v
     → LentFits k N choices × (need ≤ room)
 unfolding restCheck
 rest-told k N choices need room v f some most e =
@@ -104,7 +104,7 @@ rest-told k N choices need room v f some most e =
     let b = first-done (validCheck k) r3 v (a .1) in
     let c = choices-told n N choices (a .0 .0) (a .0 .1) in (
       record {
-        frames = f;
+        keys = f;
         some = some;
         most = most;
         valid = valid-told k (b .0 .0) f (b .0 .1);
@@ -131,12 +131,12 @@ pub begin-told : (s : Session) (N : ℕ) (k : Keys) (choices : List ℕ) (room :
 unfolding beginCheck
 begin-told s N k choices room v e =
     let r4 : Told = restCheck k N choices (commitmentsSize N) room in
-    let r3 : Told = first (framesCheck k) r4 in
+    let r3 : Told = first (keysCheck k) r4 in
     let r2 : Told = first (demand (within (alone .rounds) N) SHAPE NONE 0) r3 in
     let e2 = rest-done (atRest (s .stage)) STAGE NONE 0 r2 v e in
     let w = within-told (alone .rounds) N (test-holds (within (alone .rounds) N) SHAPE NONE 0 r3 v e2) in
-    let f = first-done (framesCheck k) r4 v (rest-done (within (alone .rounds) N) SHAPE NONE 0 r3 v e2) in
-    let t = rest-told k N choices (commitmentsSize N) room v (frames-told k (f .0 .0) (f .0 .1)) (w .0) (w .1) (f .1) in
+    let f = first-done (keysCheck k) r4 v (rest-done (within (alone .rounds) N) SHAPE NONE 0 r3 v e2) in
+    let t = rest-told k N choices (commitmentsSize N) room v (keys-told k (f .0 .0) (f .0 .1)) (w .0) (w .1) (f .1) in
     record { stage = test-holds (atRest (s .stage)) STAGE NONE 0 r2 v e; lent = t .0; enough = t .1 }
 
 pub record AnswerFits (s : Session) (k : Keys) (message choices : List ℕ) (room : ℕ) : Type 0 where
@@ -158,11 +158,11 @@ answer-told s k message choices room v e =
     let r5 : Told = restCheck k N choices (answersSize n N) room in
     let r4 : Told = first (reading Challenges (exactly n N) message) r5 in
     let r3 : Told = first (staged t3) r4 in
-    let r2 : Told = first (framesCheck k) r3 in
-    let f = first-done (framesCheck k) r3 v (rest-done t1 STAGE NONE 0 r2 v e) in
+    let r2 : Told = first (keysCheck k) r3 in
+    let f = first-done (keysCheck k) r3 v (rest-done t1 STAGE NONE 0 r2 v e) in
     let h = record-told s n (rowsOf k) (test-holds t3 STAGE NONE 0 r4 v (f .1)) in
     let m = first-done (reading Challenges (exactly n N) message) r5 v (rest-done t3 STAGE NONE 0 r4 v (f .1)) in
-    let t = rest-told k N choices (answersSize n N) room v (frames-told k (f .0 .0) (f .0 .1)) (h .2) (h .3) (m .1) in
+    let t = rest-told k N choices (answersSize n N) room v (keys-told k (f .0 .0) (f .0 .1)) (h .2) (h .3) (m .1) in
     record {
       stage = eqb-true _ _ (test-holds t1 STAGE NONE 0 r2 v e);
       places = h .0;
@@ -194,12 +194,12 @@ open-told s k message choices room v e =
     let r5 : Told = first (reading Bits (exactly n N) message) r6 in
     let r4 : Told = first (staged t4) r5 in
     let r3 : Told = first (staged t3) r4 in
-    let r2 : Told = first (framesCheck k) r3 in
-    let f = first-done (framesCheck k) r3 v (rest-done t1 STAGE NONE 0 r2 v e) in
+    let r2 : Told = first (keysCheck k) r3 in
+    let f = first-done (keysCheck k) r3 v (rest-done t1 STAGE NONE 0 r2 v e) in
     let h = record-told s n (rowsOf k) (test-holds t3 STAGE NONE 0 r4 v (f .1)) in
     let e4 = rest-done t3 STAGE NONE 0 r4 v (f .1) in
     let m = first-done (reading Bits (exactly n N) message) r6 v (rest-done t4 STAGE NONE 0 r5 v e4) in
-    let t = rest-told k N choices (openingsSize n N) room v (frames-told k (f .0 .0) (f .0 .1)) (h .2) (h .3) (m .1) in
+    let t = rest-told k N choices (openingsSize n N) room v (keys-told k (f .0 .0) (f .0 .1)) (h .2) (h .3) (m .1) in
     record {
       stage = eqb-true _ _ (test-holds t1 STAGE NONE 0 r2 v e);
       places = h .0;

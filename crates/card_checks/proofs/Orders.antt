@@ -1,20 +1,25 @@
 -- Laws of the orders of refusals, an answer each, as the code finds them.
 use mathlib.Core.Path.{_≡_, refl}
 use mathlib.Core.Bool.{Bool, true, false}
+use mathlib.Core.List.{List}
 use Prim.Native.Nat.{ℕ, _≤_, _<_}
 use borrow.Author.Tests.{eq-eqb, ne-eqb, lt-leb, le-leb}
 use lib.Dec.{leb}
 use Rattle.refusals.specs.declared.Refusal.{Refusal}
-use Rattle.refusals.specs.Number.{KEY, ROOM}
-use Rattle.refusals.specs.Buffer.{SECRET, OUTPUT}
+use Rattle.refusals.specs.Number.{KEY, ROOM, STAGE}
+use Rattle.refusals.specs.Buffer.{NONE, SECRET, OUTPUT}
 use Rattle.refusals.specs.Told.{Told, refused, fine, told, first, demand}
 use Rattle.frames.specs.declared.kind.Kind.the-variants.{System, Public, Secret}
 use Rattle.frames.specs.declared.read.Read.{Read}
 use Rattle.frames.specs.declared.read.Read.the-variants.{Frame, Refused as NotRead}
-use Rattle.frames.specs.Kinds.{alone, ofPlaces}
+use Rattle.frames.specs.Kinds.{within, alone, ofPlaces}
 use Rattle.frames.specs.Reading.{Reads}
+use Rattle.frames.specs.Choosing.{choicesCheck}
 use Rattle.frames.proofs.Orders.{frame-goes-on, frame-stops}
-use Rattle.card_checks.specs.Keys.{Keys, placesOf, rowsOf, faultOf, framesCheck, validCheck}
+use Rattle.card_checks.specs.declared.session.Session.{Session}
+use Rattle.card_checks.specs.Stages.{COMMITTED, ANSWERED}
+use Rattle.card_checks.specs.Keys.{Keys, placesOf, rowsOf, faultOf, keysCheck, validCheck}
+use Rattle.card_checks.specs.Asking.{atRest, restCheck, beginCheck, answerCheck, openCheck}
 
 -- ---- links of a chain that are tests
 
@@ -27,23 +32,23 @@ test-goes-on x y z e q = rw e q
 -- ---- buffers 1, 2, 3
 
 module _ (k : Keys) (r : Read) (m : Reads System alone (k .system) r) where
-  pub bad-system : (x : Refusal) → r ≡ NotRead x → told x ≡ framesCheck k
-  unfolding framesCheck
+  pub bad-system : (x : Refusal) → r ≡ NotRead x → told x ≡ keysCheck k
+  unfolding keysCheck
   bad-system x e = frame-stops _ (m .says) e
 
   module _ (x y z : ℕ) (e : r ≡ Frame x y z) (p : Read) (g : Reads Public (ofPlaces (placesOf k)) (k .public) p) where
-    pub bad-public : (x : Refusal) → p ≡ NotRead x → told x ≡ framesCheck k
-    unfolding framesCheck
+    pub bad-public : (x : Refusal) → p ≡ NotRead x → told x ≡ keysCheck k
+    unfolding keysCheck
     bad-public x f = frame-goes-on (m .says) e (frame-stops _ (g .says) f)
 
     module _ (x′ y′ z′ : ℕ) (f : p ≡ Frame x′ y′ z′) (q : Read) (h : Reads Secret (ofPlaces (placesOf k)) (k .secret) q) where
-      pub bad-secret : (x : Refusal) → q ≡ NotRead x → told x ≡ framesCheck k
-      unfolding framesCheck
+      pub bad-secret : (x : Refusal) → q ≡ NotRead x → told x ≡ keysCheck k
+      unfolding keysCheck
       bad-secret x i = frame-goes-on (m .says) e (frame-goes-on (g .says) f (frame-stops _ (h .says) i))
 
-      pub good-frames : (x y z : ℕ) → q ≡ Frame x y z → fine ≡ framesCheck k
-      unfolding framesCheck
-      good-frames x y z i = frame-goes-on (m .says) e (frame-goes-on (g .says) f (frame-goes-on (h .says) i refl))
+      pub good-keys : (x y z : ℕ) → q ≡ Frame x y z → fine ≡ keysCheck k
+      unfolding keysCheck
+      good-keys x y z i = frame-goes-on (m .says) e (frame-goes-on (g .says) f (frame-goes-on (h .says) i refl))
 
 -- ---- KEY; `fault` and `rows` are what the code works out
 
@@ -63,3 +68,20 @@ no-room need room l = rw (lt-leb need room l)
 
 pub room-enough : (need room : ℕ) → need ≤ room → fine ≡ demand (leb need room) ROOM OUTPUT need
 room-enough need room l = rw (le-leb need room l)
+
+-- ---- the wrong stage, whatever is lent
+
+pub no-answer-at : (s : Session) (k : Keys) (message choices : List ℕ) (room : ℕ) → (s .stage ≡ COMMITTED → ⊥) → answerCheck s k message choices room ≡ refused STAGE NONE 0
+unfolding answerCheck
+no-answer-at s k message choices room f = rw (ne-eqb (s .stage) COMMITTED f)
+
+pub no-open-at : (s : Session) (k : Keys) (message choices : List ℕ) (room : ℕ) → (s .stage ≡ ANSWERED → ⊥) → openCheck s k message choices room ≡ refused STAGE NONE 0
+unfolding openCheck
+no-open-at s k message choices room f = rw (ne-eqb (s .stage) ANSWERED f)
+
+-- ---- begin over choices that are refused, once all before them has passed
+
+pub choices-stop : (s : Session) (N : ℕ) (k : Keys) (choices : List ℕ) (room : ℕ) → atRest (s .stage) ≡ true → within (alone .rounds) N ≡ true → keysCheck k ≡ fine
+    → {x y z : ℕ} → choicesCheck (placesOf k) N choices ≡ refused x y z → beginCheck s N k choices room ≡ refused x y z
+unfolding beginCheck restCheck
+choices-stop s N k choices room a b c e = rw (a, b, c, e)

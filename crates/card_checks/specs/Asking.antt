@@ -16,7 +16,7 @@ use Rattle.frames.specs.Writing.{frameSize}
 use Rattle.frames.specs.Choosing.{choicesCheck}
 use Rattle.card_checks.specs.declared.session.Session.{Session}
 use Rattle.card_checks.specs.Stages.{IDLE, COMMITTED, ANSWERED, CLOSED}
-use Rattle.card_checks.specs.Keys.{Keys, placesOf, rowsOf, framesCheck, validCheck}
+use Rattle.card_checks.specs.Keys.{Keys, placesOf, rowsOf, keysCheck, validCheck}
 
 -- STAGE
 abbrev pub staged : Bool → Told
@@ -58,13 +58,13 @@ unfoldable pub beginCheck : Session → ℕ → Keys → List ℕ → ℕ → To
 beginCheck s N k choices room =
     first (staged (atRest (s .stage)))
     (first (demand (within (alone .rounds) N) SHAPE NONE 0)
-    (first (framesCheck k)
+    (first (keysCheck k)
     (restCheck k N choices (commitmentsSize N) room)))
 
 unfoldable pub answerCheck : Session → Keys → List ℕ → List ℕ → ℕ → Told
 answerCheck s k message choices room =
     first (staged (eqb (s .stage) COMMITTED))
-    (first (framesCheck k)
+    (first (keysCheck k)
     (first (staged (recordFits s (placesOf k) (rowsOf k)))
     (first (reading Challenges (exactly (placesOf k) (s .rounds)) message)
     (restCheck k (s .rounds) choices (answersSize (placesOf k) (s .rounds)) room))))
@@ -72,7 +72,7 @@ answerCheck s k message choices room =
 unfoldable pub openCheck : Session → Keys → List ℕ → List ℕ → ℕ → Told
 openCheck s k message choices room =
     first (staged (eqb (s .stage) ANSWERED))
-    (first (framesCheck k)
+    (first (keysCheck k)
     (first (staged (recordFits s (placesOf k) (rowsOf k)))
     (first (staged (keptFit (s .rounds) (s .challenges)))
     (first (reading Bits (exactly (placesOf k) (s .rounds)) message)

@@ -39,8 +39,8 @@ abbrev pub secretOf : Keys → List ℕ
 secretOf k = restOf Secret (k .secret)
 
 -- buffers 1, 2, 3; n is the system's
-unfoldable pub framesCheck : Keys → Told
-framesCheck k =
+unfoldable pub keysCheck : Keys → Told
+keysCheck k =
     first (reading System alone (k .system))
     (first (reading Public (ofPlaces (placesOf k)) (k .public))
     (first (reading Secret (ofPlaces (placesOf k)) (k .secret)) fine))
@@ -55,7 +55,7 @@ validCheck k = demand (eqb (faultOf k) (rowsOf k)) KEY SECRET (faultOf k)
 
 -- the key check
 unfoldable pub keyCheck : Keys → Told
-keyCheck k = first (framesCheck k) (validCheck k)
+keyCheck k = first (keysCheck k) (validCheck k)
 
 -- what the key check promises; it writes nothing
 pub record ChecksKey (k : Keys) (answer : Checked) : Type 0 where

@@ -11,7 +11,7 @@ use Rattle.rounds.specs.Layout.{AllWell}
 use Rattle.card_checks.specs.Keys.{Keys, placesOf, rowsOf, entriesOf, publicOf, secretOf}
 
 -- of the frames
-pub record FramesFit (k : Keys) : Type 0 where
+pub record KeysFit (k : Keys) : Type 0 where
   pub systemThere : 6 ≤ length (k .system)
   pub publicThere : 5 ≤ length (k .public)
   pub secretThere : 5 ≤ length (k .secret)
@@ -26,7 +26,7 @@ matrixOf k = systemOf (entriesOf k) (placesOf k) (rowsOf k)
 
 -- of all that is lent for N rounds
 pub record LentFits (k : Keys) (N : ℕ) (choices : List ℕ) : Type 0 where
-  pub frames : FramesFit k
+  pub keys : KeysFit k
   pub some : 1 ≤ N
   pub most : N ≤ 64
   pub valid : ValidKey (matrixOf k) (publicOf k) (secretOf k)

@@ -12,12 +12,12 @@ use refusals::number::KEY;
 use refusals::refuse;
 ghost use mathlib.Core.Path.{_≡_};
 ghost use Rattle.refusals.specs.Told.{means};
-ghost use Rattle.card_checks.specs.Keys.{keys, framesCheck, validCheck, ChecksKey};
-ghost use Rattle.card_checks.specs.Lent.{FramesFit};
+ghost use Rattle.card_checks.specs.Keys.{keys, keysCheck, validCheck, ChecksKey};
+ghost use Rattle.card_checks.specs.Lent.{KeysFit};
 
 // Buffers 1, 2, 3; n is the system's.
-pub fn check_frames(system: &[u8], public: &[u8], secret: &[u8]) -> Checked
-    ensures { λ r. ⌜ means r ≡ framesCheck (keys (now (system .entry)) (now (public .entry)) (now (secret .entry))) ⌝ }
+pub fn check_keys(system: &[u8], public: &[u8], secret: &[u8]) -> Checked
+    ensures { λ r. ⌜ means r ≡ keysCheck (keys (now (system .entry)) (now (public .entry)) (now (secret .entry))) ⌝ }
 {
     if let Read::Refused(x) = read_system(system) {
         return Checked::Refused(x);
@@ -34,7 +34,7 @@ pub fn check_frames(system: &[u8], public: &[u8], secret: &[u8]) -> Checked
 
 // KEY.
 pub fn check_valid(system: &[u8], public: &[u8], secret: &[u8]) -> Checked
-    requires { ⌜ FramesFit (keys (now system) (now public) (now secret)) ⌝ }
+    requires { ⌜ KeysFit (keys (now system) (now public) (now secret)) ⌝ }
     ensures { λ r. ⌜ means r ≡ validCheck (keys (now (system .entry)) (now (public .entry)) (now (secret .entry))) ⌝ }
 {
     let n = wide(system[4]);
@@ -50,7 +50,7 @@ pub fn check_valid(system: &[u8], public: &[u8], secret: &[u8]) -> Checked
 pub fn check_key(system: &[u8], public: &[u8], secret: &[u8]) -> Checked
     ensures { λ r. ⌜ ChecksKey (keys (now (system .entry)) (now (public .entry)) (now (secret .entry))) r ⌝ }
 {
-    if let Checked::Refused(x) = check_frames(system, public, secret) {
+    if let Checked::Refused(x) = check_keys(system, public, secret) {
         return Checked::Refused(x);
     }
     check_valid(system, public, secret)

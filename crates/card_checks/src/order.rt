@@ -1,5 +1,5 @@
 // What begin, answer and open ask before they do anything, each in its order.
-use crate::key::check_frames;
+use crate::key::check_keys;
 use crate::key::check_valid;
 use crate::session::ANSWERED;
 use crate::session::COMMITTED;
@@ -26,7 +26,7 @@ ghost use mathlib.Core.Path.{_≡_};
 ghost use Prim.Native.Nat.{_<_};
 ghost use Rattle.refusals.specs.Told.{means};
 ghost use Rattle.card_checks.specs.Keys.{keys};
-ghost use Rattle.card_checks.specs.Lent.{FramesFit};
+ghost use Rattle.card_checks.specs.Lent.{KeysFit};
 ghost use Rattle.card_checks.specs.Asking.{restCheck, beginCheck, answerCheck, openCheck};
 
 // What comes last at each of the three: the choices, KEY, ROOM.
@@ -39,7 +39,7 @@ fn check_rest(
     need: usize,
     room: usize,
 ) -> Checked
-    requires { ⌜ FramesFit (keys (now system) (now public) (now secret)) × (rounds < 256) ⌝ }
+    requires { ⌜ KeysFit (keys (now system) (now public) (now secret)) × (rounds < 256) ⌝ }
     ensures { λ r. ⌜ means r ≡ restCheck (keys (now (system .entry)) (now (public .entry)) (now (secret .entry))) rounds (now (choices .entry)) need room ⌝ }
 {
     if let Checked::Refused(x) = check_choices(wide(system[4]), rounds, choices) {
@@ -71,7 +71,7 @@ pub fn check_begin(
     if !within(alone().rounds, rounds) {
         return refuse(SHAPE, NONE, 0);
     }
-    if let Checked::Refused(x) = check_frames(system, public, secret) {
+    if let Checked::Refused(x) = check_keys(system, public, secret) {
         return Checked::Refused(x);
     }
     check_rest(
@@ -99,7 +99,7 @@ pub fn check_answer(
     if session.stage != COMMITTED {
         return refuse(STAGE, NONE, 0);
     }
-    if let Checked::Refused(x) = check_frames(system, public, secret) {
+    if let Checked::Refused(x) = check_keys(system, public, secret) {
         return Checked::Refused(x);
     }
     let n = wide(system[4]);
@@ -135,7 +135,7 @@ pub fn check_open(
     if session.stage != ANSWERED {
         return refuse(STAGE, NONE, 0);
     }
-    if let Checked::Refused(x) = check_frames(system, public, secret) {
+    if let Checked::Refused(x) = check_keys(system, public, secret) {
         return Checked::Refused(x);
     }
     let n = wide(system[4]);

@@ -1,24 +1,26 @@
 -- What the checks of residues, permutations and choices say where they refuse nothing.
-use mathlib.Core.Path.{_≡_, sym, ap, _∙_}
-use mathlib.Core.List.{List}
-use Prim.Native.Nat.{ℕ, _+_, _*_, _≤_, _<_}
+use mathlib.Core.Path.{_≡_, refl, sym, ap, _∙_}
+use mathlib.Core.Bool.{Bool, true, false}
+use mathlib.Core.List.{List, [], _∷_}
+use Prim.Native.Nat.{ℕ, zero, suc, _+_, _*_, _≤_, _<_}
 use native.Mathlib.Nat.{zero-mul}
 use native.Mathlib.Omega.{arith}
-use borrow.Author.Tests.{eqb-true, ltb-true}
+use borrow.Author.Tests.{eqb-true, eq-eqb, ltb-true}
 use lib.Dec.{eqb, ltb}
-use lib.ListN.{length, getD, length-take}
-use lib.Seq.{take-all}
+use lib.ListN.{length, getD, take, drop, length-take}
+use lib.Seq.{take-all, getD-drop}
 use Rattle.refusals.specs.Number.{SHAPE, VALUE, PERM}
 use Rattle.refusals.specs.Buffer.{CHOICES}
-use Rattle.refusals.specs.Told.{done, firstBelow}
-use Rattle.refusals.proofs.Chain.{first-done, demand-done, below-passed}
+use Rattle.refusals.specs.Told.{done, refused, firstBelow, demand}
+use Rattle.refusals.proofs.Chain.{first-done, demand-done, below-none, below-stops, below-passed}
 use Rattle.algebra.specs.Lists.{stretch}
 use Rattle.algebra.specs.Residues.{modulus, Residues}
 use Rattle.algebra.specs.Permutations.{isPerm, IsPerm}
-use Rattle.algebra.proofs.Permutations.{isPerm→}
+use Rattle.algebra.proofs.Permutations.{apart, isPerm→}
 use Rattle.frames.specs.Reading.{residueAt, values, permutationAt, permutations}
 use Rattle.frames.specs.Choosing.{choiceSize, choiceOf, vectorOf, permutationOf, choiceCheck, choiceAt, choicesCheck}
 use Rattle.frames.proofs.Facts.{test-holds, rest-done}
+use Rattle.frames.proofs.Passing.{residues-pass}
 
 pub values-told : (b at : ℕ) (l v : List ℕ) → values b at l ≡ done v → Residues modulus l
 unfolding values
@@ -69,3 +71,51 @@ choices-told n N choices v e =
           let p = below-passed N (choiceAt n choices) v (rest-done t SHAPE CHOICES 0 r v e) k h in
           choice-told n (k * choiceSize n) (choiceOf choices n k) (p .0) (p .1),
     )
+
+-- ---- zeros are no choices
+
+abbrev pub Zeros : List ℕ → Type 0
+Zeros l = (j : ℕ) → getD l j 0 ≡ 0
+
+zeros-take : (n : ℕ) (l : List ℕ) → Zeros l → Zeros (take n l)
+zeros-take zero l z j = refl
+zeros-take (suc n) [] z j = refl
+zeros-take (suc n) (x ∷ xs) z zero = z 0
+zeros-take (suc n) (x ∷ xs) z (suc j) = zeros-take n xs (λ i. z (suc i)) j
+
+zeros-drop : (n : ℕ) (l : List ℕ) → Zeros l → Zeros (drop n l)
+zeros-drop n l z j = getD-drop n l j 0 ∙ z (n + j)
+
+zeros-stretch : (size k : ℕ) (l : List ℕ) → Zeros l → Zeros (stretch size k l)
+unfolding stretch
+zeros-stretch size k l z = zeros-take size (drop (k * size) l) (zeros-drop (k * size) l z)
+
+-- they have the same value at two places
+zeros-no-perm : (n : ℕ) (l : List ℕ) → 2 ≤ n → Zeros l → isPerm n l ≡ false
+zeros-no-perm n l h z = step (isPerm n l) refl
+  where
+    step : (b : Bool) → isPerm n l ≡ b → b ≡ false
+    step false e = refl
+    step true e = let q : _≡_ {A = ℕ} 0 1 = apart n l (isPerm→ n l e) 0 1 (omega arith) (omega arith) (z 0 ∙ sym (z 1)) in absurd (omega arith)
+
+module _ (n : ℕ) (h : 2 ≤ n) where
+  zero-permutation : (b at : ℕ) (l : List ℕ) → Zeros l → permutations b n at 1 l ≡ refused PERM b at
+  unfolding permutations
+  zero-permutation b at l z =
+      let e : permutationAt b n at l 0 ≡ refused PERM b at =
+      ap (λ (t : Bool). demand t PERM b (at + 0 * n)) (zeros-no-perm n (stretch n 0 l) h (zeros-stretch n 0 l z)) ∙ ap (refused PERM b) (omega (arith, zero-mul n)) in
+      sym (below-stops (permutationAt b n at l) 0 (below-none _) 1 (omega arith) e)
+
+  zero-choice : (at : ℕ) (choice : List ℕ) → Zeros choice → choiceCheck n at choice ≡ refused PERM CHOICES (at + n)
+  unfolding choiceCheck vectorOf permutationOf
+  zero-choice at choice z =
+      rw (residues-pass CHOICES at (take n choice) (λ j l. rw (zeros-take n choice z j) (omega arith)))
+      (zero-permutation CHOICES (at + n) (take n (drop n choice)) (zeros-take n (drop n choice) (zeros-drop n choice z)))
+
+  -- PERM of round 0
+  pub zeros-refused : (N : ℕ) (choices : List ℕ) → 1 ≤ N → length choices ≡ N * choiceSize n → Zeros choices → choicesCheck n N choices ≡ refused PERM CHOICES n
+  unfolding choicesCheck
+  zeros-refused N choices some e z =
+      let q : choiceAt n choices 0 ≡ refused PERM CHOICES n =
+      zero-choice (0 * choiceSize n) (choiceOf choices n 0) (zeros-stretch (choiceSize n) 0 choices z) ∙ ap (refused PERM CHOICES) (omega (arith, zero-mul (choiceSize n))) in
+      rw (eq-eqb (length choices) (N * choiceSize n) e) (sym (below-stops (choiceAt n choices) 0 (below-none _) N some q))

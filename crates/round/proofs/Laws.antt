@@ -12,7 +12,7 @@ use Rattle.algebra.proofs.Permutations.{length-permute, permute-compose, compos
 use Rattle.algebra.proofs.Vectors.{residues-permute, permute-addScaled, add-zeros, sub-add}
 use Rattle.algebra.proofs.Matrices.{length-product, residues-product, product-reindex, product-linear}
 use Rattle.sha256.specs.Standard.{digestOf}
-use Rattle.round.specs.Round.{System, Sound, times, timesAt, ValidKey, Pair, WellFormed, committed0, committed1, firstAnswer, opening, honest, calledFor, sameBytes, Opened, opened, passes, commitmentOf, openedOf, standInCommitted, standInAnswer, standIn}
+use Rattle.round.specs.Round.{System, Sound, times, timesAt, ValidKey, Pair, WellFormed, committed0, committed1, firstAnswer, opening, honest, calledFor, sameBytes, Opened, passes, commitmentOf, openedOf, standInCommitted, standInAnswer, standIn}
 
 -- ---- the comparison
 
@@ -48,15 +48,12 @@ length-under n x θ h = length-permute x θ ∙ h .len
 
 -- ---- an honest round
 
--- what is opened of it, by the bit
-module _ (s : System) (v π : List ℕ) (c : ℕ) (x : Pair) where
-  pub opened-zero : openedOf false (honest s v π c false x) ≡ opened (digestOf (committed0 s x)) (firstAnswer (s .p) v π c x) (opening π false (x .permutation))
-  unfolding honest
-  opened-zero = refl
-
-  pub opened-one : openedOf true (honest s v π c true x) ≡ opened (digestOf (committed1 π x)) (firstAnswer (s .p) v π c x) (opening π true (x .permutation))
-  unfolding honest
-  opened-one = refl
+-- what it shows
+pub honest-shows : (s : System) (v π : List ℕ) (c : ℕ) (bit : Bool) (x : Pair)
+    → honest s v π c bit x
+    ≡ record { zero = digestOf (committed0 s x); one = digestOf (committed1 π x); answer = firstAnswer (s .p) v π c x; permutation = opening π bit (x .permutation) }
+unfolding honest
+honest-shows s v π c bit x = refl
 
 module _ (s : System) (v π : List ℕ) (ok : Sound s) (key : ValidKey s v π) (c : ℕ) (x : Pair) (well : WellFormed s x) where
   long : length (permute (x .vector) (x .permutation)) ≡ length (permute v (compose π (x .permutation)))

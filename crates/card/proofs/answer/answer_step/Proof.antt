@@ -40,7 +40,7 @@ enum-told c = search needs
 
 -- src/answer.rt:76:18
 shared-slice-read-wide : tie.Need-shared-slice-read-wide
-shared-slice-read-wide c = let t = past (c .before) .lent .frames .systemThere in omega arith
+shared-slice-read-wide c = let t = past (c .before) .lent .keys .systemThere in omega arith
 
 -- src/answer.rt:76:9
 wide-requires : tie.Need-wide-requires
@@ -52,11 +52,11 @@ wide-requires-2 c κs = search needs
 
 -- src/answer.rt:79:9
 sub-put-answers : tie.Need-sub-put-answers
-sub-put-answers c = let t = past (c .before .before .before) .lent .frames .publicThere in omega arith
+sub-put-answers c = let t = past (c .before .before .before) .lent .keys .publicThere in omega arith
 
 -- src/answer.rt:79:9
 part-put-answers-start : tie.Need-part-put-answers-start
-part-put-answers-start c = let t = past (c .before .before .before) .lent .frames .publicThere in omega arith
+part-put-answers-start c = let t = past (c .before .before .before) .lent .keys .publicThere in omega arith
 
 -- src/answer.rt:79:9
 part-put-answers-end : tie.Need-part-put-answers-end
@@ -64,11 +64,11 @@ part-put-answers-end c = search needs
 
 -- src/answer.rt:80:9
 sub-put-answers-2 : tie.Need-sub-put-answers-2
-sub-put-answers-2 c = let t = past (c .before .before .before .before) .lent .frames .secretThere in omega arith
+sub-put-answers-2 c = let t = past (c .before .before .before .before) .lent .keys .secretThere in omega arith
 
 -- src/answer.rt:80:9
 part-put-answers-start-2 : tie.Need-part-put-answers-start-2
-part-put-answers-start-2 c = let t = past (c .before .before .before .before) .lent .frames .secretThere in omega arith
+part-put-answers-start-2 c = let t = past (c .before .before .before .before) .lent .keys .secretThere in omega arith
 
 -- src/answer.rt:80:9
 part-put-answers-end-2 : tie.Need-part-put-answers-end-2
@@ -91,13 +91,13 @@ put-answers-requires : tie.Need-put-answers-requires
 put-answers-requires c κs =
     let g = c .before .before .before .before .before .before .before .before .before .before .before .before .before .before .before .before .args in let h = past (c .before .before .before .before .before .before .before) in let k = keys (g .system .now) (g .public .now) (g .secret .now) in
     let e = challenges-sent _ _ (g .message .now) (h .sent) in
-    rw (c .before .before .before .before .before .wide .ensures .0, c .before .before .before .before .wide2 .ensures .0) (card-parts k _ _ (h .lent) _ _ refl refl, h .lent .frames .system .most, h .lent .most, omega arith, h .enough)
+    rw (c .before .before .before .before .before .wide .ensures .0, c .before .before .before .before .wide2 .ensures .0) (card-parts k _ _ (h .lent) _ _ refl refl, h .lent .keys .system .most, h .lent .most, omega arith, h .enough)
 
 -- src/answer.rt:88:34
 mul-t12 : tie.Need-mul-t12
 mul-t12 c =
     let h = past (c .before .before .before .before .before .before .before .before .before .before) .lent in
-    let a : c .before .before .before .before .before .before .before .before .wide .result ≤ 64 = omega (arith, c .before .before .before .before .before .before .before .before .wide .ensures .0, h .frames .system .most) in
+    let a : c .before .before .before .before .before .before .before .before .wide .result ≤ 64 = omega (arith, c .before .before .before .before .before .before .before .before .wide .ensures .0, h .keys .system .most) in
     let b : c .before .before .before .before .before .before .before .wide2 .result ≤ 64 = omega (arith, c .before .before .before .before .before .before .before .wide2 .ensures .0, h .most) in
     let s = size-small Answers _ _ a b in
     omega arith
@@ -106,7 +106,7 @@ mul-t12 c =
 add-t25 : tie.Need-add-t25
 add-t25 c =
     let h = past (c .before .before .before .before .before .before .before .before .before .before) .lent in
-    let a : c .before .before .before .before .before .before .before .before .wide .result ≤ 64 = omega (arith, c .before .before .before .before .before .before .before .before .wide .ensures .0, h .frames .system .most) in
+    let a : c .before .before .before .before .before .before .before .before .wide .result ≤ 64 = omega (arith, c .before .before .before .before .before .before .before .before .wide .ensures .0, h .keys .system .most) in
     let b : c .before .before .before .before .before .before .before .wide2 .result ≤ 64 = omega (arith, c .before .before .before .before .before .before .before .wide2 .ensures .0, h .most) in
     let s = size-small Answers _ _ a b in
     omega arith

@@ -38,19 +38,19 @@ enum-told c = search needs
 
 -- src/begin.rt:60:13
 shared-slice-read-n : tie.Need-shared-slice-read-n
-shared-slice-read-n c = let t = past (c .before) .lent .frames .systemThere in omega arith
+shared-slice-read-n c = let t = past (c .before) .lent .keys .systemThere in omega arith
 
 -- src/begin.rt:61:13
 shared-slice-read-m : tie.Need-shared-slice-read-m
-shared-slice-read-m c = let t = past (c .before .before) .lent .frames .systemThere in omega arith
+shared-slice-read-m c = let t = past (c .before .before) .lent .keys .systemThere in omega arith
 
 -- src/begin.rt:63:9
 sub-put-commitments : tie.Need-sub-put-commitments
-sub-put-commitments c = let t = past (c .before .before) .lent .frames .systemThere in omega arith
+sub-put-commitments c = let t = past (c .before .before) .lent .keys .systemThere in omega arith
 
 -- src/begin.rt:63:9
 part-put-commitments-start : tie.Need-part-put-commitments-start
-part-put-commitments-start c = let t = past (c .before .before) .lent .frames .systemThere in omega arith
+part-put-commitments-start c = let t = past (c .before .before) .lent .keys .systemThere in omega arith
 
 -- src/begin.rt:63:9
 part-put-commitments-end : tie.Need-part-put-commitments-end
@@ -66,11 +66,11 @@ wide-requires-2 c κs = search needs
 
 -- src/begin.rt:66:9
 sub-put-commitments-2 : tie.Need-sub-put-commitments-2
-sub-put-commitments-2 c = let t = past (c .before .before .before .before .before) .lent .frames .secretThere in omega arith
+sub-put-commitments-2 c = let t = past (c .before .before .before .before .before) .lent .keys .secretThere in omega arith
 
 -- src/begin.rt:66:9
 part-put-commitments-start-2 : tie.Need-part-put-commitments-start-2
-part-put-commitments-start-2 c = let t = past (c .before .before .before .before .before) .lent .frames .secretThere in omega arith
+part-put-commitments-start-2 c = let t = past (c .before .before .before .before .before) .lent .keys .secretThere in omega arith
 
 -- src/begin.rt:66:9
 part-put-commitments-end-2 : tie.Need-part-put-commitments-end-2

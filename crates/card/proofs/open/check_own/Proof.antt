@@ -15,11 +15,11 @@ wide-requires c κs = search needs
 
 -- src/open.rt:53:9
 sub-own-failing : tie.Need-sub-own-failing
-sub-own-failing c = let t = c .before .before .before .before .before .before .before .pre .lent .frames .systemThere in omega arith
+sub-own-failing c = let t = c .before .before .before .before .before .before .before .pre .lent .keys .systemThere in omega arith
 
 -- src/open.rt:53:9
 part-own-failing-start : tie.Need-part-own-failing-start
-part-own-failing-start c = let t = c .before .before .before .before .before .before .before .pre .lent .frames .systemThere in omega arith
+part-own-failing-start c = let t = c .before .before .before .before .before .before .before .pre .lent .keys .systemThere in omega arith
 
 -- src/open.rt:53:9
 part-own-failing-end : tie.Need-part-own-failing-end
@@ -27,7 +27,7 @@ part-own-failing-end c = search needs
 
 -- src/open.rt:54:14
 shared-slice-read-wide : tie.Need-shared-slice-read-wide
-shared-slice-read-wide c = let t = c .before .before .before .before .before .before .before .before .before .pre .lent .frames .systemThere in omega arith
+shared-slice-read-wide c = let t = c .before .before .before .before .before .before .before .before .before .pre .lent .keys .systemThere in omega arith
 
 -- src/open.rt:54:9
 wide-requires-2 : tie.Need-wide-requires-2
@@ -35,7 +35,7 @@ wide-requires-2 c κs = search needs
 
 -- src/open.rt:55:14
 shared-slice-read-wide-2 : tie.Need-shared-slice-read-wide-2
-shared-slice-read-wide-2 c = let t = c .before .before .before .before .before .before .before .before .before .before .before .pre .lent .frames .systemThere in omega arith
+shared-slice-read-wide-2 c = let t = c .before .before .before .before .before .before .before .before .before .before .before .pre .lent .keys .systemThere in omega arith
 
 -- src/open.rt:55:9
 wide-requires-3 : tie.Need-wide-requires-3
@@ -43,11 +43,11 @@ wide-requires-3 c κs = search needs
 
 -- src/open.rt:56:9
 sub-own-failing-2 : tie.Need-sub-own-failing-2
-sub-own-failing-2 c = let t = c .before .before .before .before .before .before .before .before .before .before .before .before .pre .lent .frames .publicThere in omega arith
+sub-own-failing-2 c = let t = c .before .before .before .before .before .before .before .before .before .before .before .before .pre .lent .keys .publicThere in omega arith
 
 -- src/open.rt:56:9
 part-own-failing-start-2 : tie.Need-part-own-failing-start-2
-part-own-failing-start-2 c = let t = c .before .before .before .before .before .before .before .before .before .before .before .before .pre .lent .frames .publicThere in omega arith
+part-own-failing-start-2 c = let t = c .before .before .before .before .before .before .before .before .before .before .before .before .pre .lent .keys .publicThere in omega arith
 
 -- src/open.rt:56:9
 part-own-failing-end-2 : tie.Need-part-own-failing-end-2
@@ -55,11 +55,11 @@ part-own-failing-end-2 c = search needs
 
 -- src/open.rt:57:9
 sub-own-failing-3 : tie.Need-sub-own-failing-3
-sub-own-failing-3 c = let t = c .before .before .before .before .before .before .before .before .before .before .before .before .before .pre .lent .frames .secretThere in omega arith
+sub-own-failing-3 c = let t = c .before .before .before .before .before .before .before .before .before .before .before .before .before .pre .lent .keys .secretThere in omega arith
 
 -- src/open.rt:57:9
 part-own-failing-start-3 : tie.Need-part-own-failing-start-3
-part-own-failing-start-3 c = let t = c .before .before .before .before .before .before .before .before .before .before .before .before .before .pre .lent .frames .secretThere in omega arith
+part-own-failing-start-3 c = let t = c .before .before .before .before .before .before .before .before .before .before .before .before .before .pre .lent .keys .secretThere in omega arith
 
 -- src/open.rt:57:9
 part-own-failing-end-3 : tie.Need-part-own-failing-end-3

@@ -45,7 +45,7 @@ enum-told c = search needs
 
 -- src/open.rt:113:18
 shared-slice-read-wide : tie.Need-shared-slice-read-wide
-shared-slice-read-wide c = let t = past (c .before) .lent .frames .systemThere in omega arith
+shared-slice-read-wide c = let t = past (c .before) .lent .keys .systemThere in omega arith
 
 -- src/open.rt:113:9
 wide-requires : tie.Need-wide-requires
@@ -57,11 +57,11 @@ wide-requires-2 c κs = search needs
 
 -- src/open.rt:115:18
 sub-put-openings : tie.Need-sub-put-openings
-sub-put-openings c = let t = past (c .before .before .before) .lent .frames .secretThere in omega arith
+sub-put-openings c = let t = past (c .before .before .before) .lent .keys .secretThere in omega arith
 
 -- src/open.rt:115:18
 part-put-openings-start : tie.Need-part-put-openings-start
-part-put-openings-start c = let t = past (c .before .before .before) .lent .frames .secretThere in omega arith
+part-put-openings-start c = let t = past (c .before .before .before) .lent .keys .secretThere in omega arith
 
 -- src/open.rt:115:18
 part-put-openings-end : tie.Need-part-put-openings-end
@@ -83,7 +83,7 @@ part-put-openings-end-2 c = search needs
 put-openings-requires : tie.Need-put-openings-requires
 put-openings-requires c κs =
     let g = c .before .before .before .before .before .before .before .before .before .before .before .before .before .before .before .before .before .args in let h = past (c .before .before .before .before .before .before .before) in let k = keys (g .system .now) (g .public .now) (g .secret .now) in
-    rw (c .before .before .before .before .before .wide .ensures .0, c .before .before .before .before .wide2 .ensures .0, rest-part Bits (g .message .now) 5 refl) (key-parts k _ _ (h .lent) _ _ refl refl, h .lent .frames .system .most, h .lent .most, bits-sent _ _ (g .message .now) (h .sent), h .enough)
+    rw (c .before .before .before .before .before .wide .ensures .0, c .before .before .before .before .wide2 .ensures .0, rest-part Bits (g .message .now) 5 refl) (key-parts k _ _ (h .lent) _ _ refl refl, h .lent .keys .system .most, h .lent .most, bits-sent _ _ (g .message .now) (h .sent), h .enough)
 
 -- src/open.rt:116:5
 zero-requires : tie.Need-zero-requires
@@ -93,7 +93,7 @@ zero-requires c κs = search needs
 mul-t24 : tie.Need-mul-t24
 mul-t24 c =
     let h = past (c .before .before .before .before .before .before .before .before .before .before .before .before .before .before .before) .lent in
-    let a : c .before .before .before .before .before .before .before .before .before .before .before .before .before .wide .result ≤ 64 = omega (arith, c .before .before .before .before .before .before .before .before .before .before .before .before .before .wide .ensures .0, h .frames .system .most) in
+    let a : c .before .before .before .before .before .before .before .before .before .before .before .before .before .wide .result ≤ 64 = omega (arith, c .before .before .before .before .before .before .before .before .before .before .before .before .before .wide .ensures .0, h .keys .system .most) in
     let b : c .before .before .before .before .before .before .before .before .before .before .before .before .wide2 .result ≤ 64 = omega (arith, c .before .before .before .before .before .before .before .before .before .before .before .before .wide2 .ensures .0, h .most) in
     let s = size-small Openings _ _ a b in
     omega arith
@@ -102,7 +102,7 @@ mul-t24 c =
 add-t15 : tie.Need-add-t15
 add-t15 c =
     let h = past (c .before .before .before .before .before .before .before .before .before .before .before .before .before .before .before) .lent in
-    let a : c .before .before .before .before .before .before .before .before .before .before .before .before .before .wide .result ≤ 64 = omega (arith, c .before .before .before .before .before .before .before .before .before .before .before .before .before .wide .ensures .0, h .frames .system .most) in
+    let a : c .before .before .before .before .before .before .before .before .before .before .before .before .before .wide .result ≤ 64 = omega (arith, c .before .before .before .before .before .before .before .before .before .before .before .before .before .wide .ensures .0, h .keys .system .most) in
     let b : c .before .before .before .before .before .before .before .before .before .before .before .before .wide2 .result ≤ 64 = omega (arith, c .before .before .before .before .before .before .before .before .before .before .before .before .wide2 .ensures .0, h .most) in
     let s = size-small Openings _ _ a b in
     omega arith

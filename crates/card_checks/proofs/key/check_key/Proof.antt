@@ -2,15 +2,15 @@
 use mathlib.Core.Path.{sym, ap, _∙_}
 use mathlib.Core.List.{[]}
 use borrow.Author.Needs.{needs}
-use Rattle.card_checks.proofs.Facts.{frames-told}
+use Rattle.card_checks.proofs.Facts.{keys-told}
 use Rattle.card_checks.specs.Keys.{keyCheck}
 use Rattle.refusals.proofs.Chain.{goes-on, stops}
 use Rattle.refusals.specs.Told.{means}
 use Rattle.card_checks.proofs.key.check_key.Statement.{statement}
 use Rattle.card_checks.proofs.key.check_key.Tie as tie
 
-check-frames-requires : tie.Need-check-frames-requires
-check-frames-requires c κs = search needs
+check-keys-requires : tie.Need-check-keys-requires
+check-keys-requires c κs = search needs
 
 -- src/key.rt:53:29
 enum-known-x : tie.Need-enum-known-x
@@ -19,21 +19,21 @@ enum-known-x c = search needs
 -- src/key.rt:54:9
 returns : tie.Need-returns
 unfolding keyCheck
-returns c = record { says = stops _ (c .before .before .before .check-frames .ensures) (c .before .x .given .1) }
+returns c = record { says = stops _ (c .before .before .before .check-keys .ensures) (c .before .x .given .1) }
 
 enum-told : tie.Need-enum-told
 enum-told c = search needs
 
 -- src/key.rt:56:5
 check-valid-requires : tie.Need-check-valid-requires
-check-valid-requires c κs = frames-told _ [] (sym (c .before .before .check-frames .ensures) ∙ ap means (c .enum-told .given .1))
+check-valid-requires c κs = keys-told _ [] (sym (c .before .before .check-keys .ensures) ∙ ap means (c .enum-told .given .1))
 
 -- src/key.rt:50:1
 returns-2 : tie.Need-returns-2
 unfolding keyCheck
-returns-2 c = record { says = goes-on (c .before .before .before .check-frames .ensures) (c .before .enum-told .given .1) (c .check-valid .ensures) }
+returns-2 c = record { says = goes-on (c .before .before .before .check-keys .ensures) (c .before .enum-told .given .1) (c .check-valid .ensures) }
 
 pub check-key-spec : {M : Type 1} → statement M
 check-key-spec =
     tie.close
-    (tie.spec check-frames-requires enum-known-x returns enum-told check-valid-requires returns-2)
+    (tie.spec check-keys-requires enum-known-x returns enum-told check-valid-requires returns-2)

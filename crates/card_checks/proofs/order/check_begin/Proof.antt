@@ -4,11 +4,11 @@ use mathlib.Core.List.{[]}
 use native.Mathlib.Omega.{arith}
 use borrow.Author.Needs.{needs}
 use borrow.Author.Tests.{not-false, not-true}
-use Rattle.card_checks.proofs.Facts.{frames-told}
+use Rattle.card_checks.proofs.Facts.{keys-told}
 use Rattle.card_checks.proofs.Orders.{test-goes-on, test-stops}
 use Rattle.card_checks.specs.Asking.{beginCheck}
 use Rattle.card_checks.specs.Keys.{keys}
-use Rattle.card_checks.specs.Lent.{FramesFit}
+use Rattle.card_checks.specs.Lent.{KeysFit}
 use Rattle.frames.proofs.Facts.{within-told}
 use Rattle.frames.specs.Kinds.{alone}
 use Rattle.refusals.proofs.Chain.{goes-on, stops}
@@ -17,8 +17,8 @@ use Rattle.card_checks.proofs.order.check_begin.Statement.{statement}
 use Rattle.card_checks.proofs.order.check_begin.Tie as tie
 
 -- past the frames
-frames-fine : (c : tie.After-enum-told) → FramesFit (keys (c .before .before .before .before .before .before .before .before .before .before .before .before .args .system .now) (c .before .before .before .before .before .before .before .before .before .before .before .before .args .public .now) (c .before .before .before .before .before .before .before .before .before .before .before .before .args .secret .now))
-frames-fine c = frames-told _ [] (sym (c .before .before .check-frames .ensures) ∙ ap means (c .enum-told .given .1))
+keys-fine : (c : tie.After-enum-told) → KeysFit (keys (c .before .before .before .before .before .before .before .before .before .before .before .before .args .system .now) (c .before .before .before .before .before .before .before .before .before .before .before .before .args .public .now) (c .before .before .before .before .before .before .before .before .before .before .before .before .args .secret .now))
+keys-fine c = keys-told _ [] (sym (c .before .before .check-keys .ensures) ∙ ap means (c .enum-told .given .1))
 
 at-rest-requires : tie.Need-at-rest-requires
 at-rest-requires c κs = search needs
@@ -50,8 +50,8 @@ unfolding beginCheck
 returns-2 c = c .refuse2 .ensures ∙ test-goes-on _ _ _ (sym (c .before .before .before .before .before .at-rest .ensures) ∙ not-false (c .before .before .before .before .before .at-rest .result) (c .before .before .before .before .if1 .left)) (test-stops _ _ _ _ (rw (c .before .before .before .alone .ensures) at (sym (c .before .before .within .ensures)) ∙ not-true (c .before .before .within .result) (c .before .if2 .taken)))
 
 -- src/order.rt:74:34
-check-frames-requires : tie.Need-check-frames-requires
-check-frames-requires c κs = search needs
+check-keys-requires : tie.Need-check-keys-requires
+check-keys-requires c κs = search needs
 
 -- src/order.rt:74:29
 enum-known-x : tie.Need-enum-known-x
@@ -60,7 +60,7 @@ enum-known-x c = search needs
 -- src/order.rt:75:9
 returns-3 : tie.Need-returns-3
 unfolding beginCheck
-returns-3 c = test-goes-on _ _ _ (sym (c .before .before .before .before .before .before .before .before .at-rest .ensures) ∙ not-false (c .before .before .before .before .before .before .before .before .at-rest .result) (c .before .before .before .before .before .before .before .if1 .left)) (test-goes-on _ _ _ (rw (c .before .before .before .before .before .before .alone .ensures) at (sym (c .before .before .before .before .before .within .ensures)) ∙ not-false (c .before .before .before .before .before .within .result) (c .before .before .before .before .if2 .left)) (stops _ (c .before .before .before .check-frames .ensures) (c .before .x .given .1)))
+returns-3 c = test-goes-on _ _ _ (sym (c .before .before .before .before .before .before .before .before .at-rest .ensures) ∙ not-false (c .before .before .before .before .before .before .before .before .at-rest .result) (c .before .before .before .before .before .before .before .if1 .left)) (test-goes-on _ _ _ (rw (c .before .before .before .before .before .before .alone .ensures) at (sym (c .before .before .before .before .before .within .ensures)) ∙ not-false (c .before .before .before .before .before .within .result) (c .before .before .before .before .if2 .left)) (stops _ (c .before .before .before .check-keys .ensures) (c .before .x .given .1)))
 
 enum-told : tie.Need-enum-told
 enum-told c = search needs
@@ -75,12 +75,12 @@ add-check-rest c = let w = within-told (alone .rounds) (c .before .before .befor
 
 -- src/order.rt:77:5
 check-rest-requires : tie.Need-check-rest-requires
-check-rest-requires c κs = let w = within-told (alone .rounds) (c .before .before .before .before .before .before .before .before .before .before .before .before .args .rounds) (rw (c .before .before .before .before .before .alone .ensures) at (sym (c .before .before .before .before .within .ensures)) ∙ not-false (c .before .before .before .before .within .result) (c .before .before .before .if2 .left)) in (frames-fine (c), omega arith)
+check-rest-requires c κs = let w = within-told (alone .rounds) (c .before .before .before .before .before .before .before .before .before .before .before .before .args .rounds) (rw (c .before .before .before .before .before .alone .ensures) at (sym (c .before .before .before .before .within .ensures)) ∙ not-false (c .before .before .before .before .within .result) (c .before .before .before .if2 .left)) in (keys-fine (c), omega arith)
 
 -- src/order.rt:57:1
 returns-4 : tie.Need-returns-4
 unfolding beginCheck
-returns-4 c = test-goes-on _ _ _ (sym (c .before .before .before .before .before .before .before .before .at-rest .ensures) ∙ not-false (c .before .before .before .before .before .before .before .before .at-rest .result) (c .before .before .before .before .before .before .before .if1 .left)) (test-goes-on _ _ _ (rw (c .before .before .before .before .before .before .alone .ensures) at (sym (c .before .before .before .before .before .within .ensures)) ∙ not-false (c .before .before .before .before .before .within .result) (c .before .before .before .before .if2 .left)) (goes-on (c .before .before .before .check-frames .ensures) (c .before .enum-told .given .1) (c .check-rest .ensures)))
+returns-4 c = test-goes-on _ _ _ (sym (c .before .before .before .before .before .before .before .before .at-rest .ensures) ∙ not-false (c .before .before .before .before .before .before .before .before .at-rest .result) (c .before .before .before .before .before .before .before .if1 .left)) (test-goes-on _ _ _ (rw (c .before .before .before .before .before .before .alone .ensures) at (sym (c .before .before .before .before .before .within .ensures)) ∙ not-false (c .before .before .before .before .before .within .result) (c .before .before .before .before .if2 .left)) (goes-on (c .before .before .before .check-keys .ensures) (c .before .enum-told .given .1) (c .check-rest .ensures)))
 
 pub check-begin-spec : {M : Type 1} → statement M
 check-begin-spec =
@@ -93,7 +93,7 @@ check-begin-spec =
     within-requires
     refuse-requires-2
     returns-2
-    check-frames-requires
+    check-keys-requires
     enum-known-x
     returns-3
     enum-told

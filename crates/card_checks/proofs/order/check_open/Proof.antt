@@ -5,12 +5,12 @@ use Prim.Native.Nat.{_≤_}
 use native.Mathlib.Omega.{arith}
 use borrow.Author.Needs.{needs}
 use borrow.Author.Tests.{eq-eqb, ne-eqb, not-false, not-true}
-use Rattle.card_checks.proofs.Facts.{frames-told}
+use Rattle.card_checks.proofs.Facts.{keys-told}
 use Rattle.card_checks.proofs.Orders.{test-goes-on, test-stops}
 use Rattle.card_checks.proofs.Records.{record-told}
 use Rattle.card_checks.specs.Asking.{openCheck}
 use Rattle.card_checks.specs.Keys.{keys}
-use Rattle.card_checks.specs.Lent.{FramesFit}
+use Rattle.card_checks.specs.Lent.{KeysFit}
 use Rattle.card_checks.specs.Stages.{ANSWERED}
 use Rattle.frames.proofs.Facts.{size-small}
 use Rattle.frames.proofs.Orders.{frame-goes-on, frame-stops}
@@ -21,13 +21,13 @@ use Rattle.card_checks.proofs.order.check_open.Statement.{statement}
 use Rattle.card_checks.proofs.order.check_open.Tie as tie
 
 -- past the frames
-frames-fine : (c : tie.After-enum-told) → FramesFit (keys (c .before .before .before .before .before .before .before .before .before .before .args .system .now) (c .before .before .before .before .before .before .before .before .before .before .args .public .now) (c .before .before .before .before .before .before .before .before .before .before .args .secret .now))
-frames-fine c = frames-told _ [] (sym (c .before .before .check-frames .ensures) ∙ ap means (c .enum-told .given .1))
+keys-fine : (c : tie.After-enum-told) → KeysFit (keys (c .before .before .before .before .before .before .before .before .before .before .args .system .now) (c .before .before .before .before .before .before .before .before .before .before .args .public .now) (c .before .before .before .before .before .before .before .before .before .before .args .secret .now))
+keys-fine c = keys-told _ [] (sym (c .before .before .check-keys .ensures) ∙ ap means (c .enum-told .given .1))
 
 -- n and N are at most 64
 numbers-fit : (c : tie.After-wide3) → (c .before .before .before .before .before .before .before .wide .result ≤ 64) × (c .wide3 .result ≤ 64)
 numbers-fit c =
-    let f = frames-fine (c .before .before .before .before .before .before .before .before .before) .system .most in
+    let f = keys-fine (c .before .before .before .before .before .before .before .before .before) .system .most in
     let t = record-told (c .before .before .before .before .before .before .before .before .before .before .before .before .before .before .before .before .before .before .before .args .session) (c .before .before .before .before .before .before .before .wide .result) (c .before .before .before .before .before .wide2 .result) (sym (c .before .before .before .before .record-fits .ensures) ∙ not-false (c .before .before .before .before .record-fits .result) (c .before .before .before .if2 .left)) in
     (omega (arith, c .before .before .before .before .before .before .before .wide .ensures .0), omega (arith, t .3, c .wide3 .ensures .0))
 
@@ -40,8 +40,8 @@ unfolding openCheck
 returns c = c .refuse .ensures ∙ test-stops _ _ _ _ (ne-eqb _ ANSWERED (c .before .if1 .taken))
 
 -- src/order.rt:122:34
-check-frames-requires : tie.Need-check-frames-requires
-check-frames-requires c κs = search needs
+check-keys-requires : tie.Need-check-keys-requires
+check-keys-requires c κs = search needs
 
 -- src/order.rt:122:29
 enum-known-x : tie.Need-enum-known-x
@@ -50,14 +50,14 @@ enum-known-x c = search needs
 -- src/order.rt:123:9
 returns-2 : tie.Need-returns-2
 unfolding openCheck
-returns-2 c = test-goes-on _ _ _ (eq-eqb _ ANSWERED (c .before .before .before .before .if1 .left)) (stops _ (c .before .before .before .check-frames .ensures) (c .before .x .given .1))
+returns-2 c = test-goes-on _ _ _ (eq-eqb _ ANSWERED (c .before .before .before .before .if1 .left)) (stops _ (c .before .before .before .check-keys .ensures) (c .before .x .given .1))
 
 enum-told : tie.Need-enum-told
 enum-told c = search needs
 
 -- src/order.rt:125:18
 shared-slice-read-wide : tie.Need-shared-slice-read-wide
-shared-slice-read-wide c = let t = frames-fine (c .before) .systemThere in omega arith
+shared-slice-read-wide c = let t = keys-fine (c .before) .systemThere in omega arith
 
 -- src/order.rt:125:9
 wide-requires : tie.Need-wide-requires
@@ -65,7 +65,7 @@ wide-requires c κs = search needs
 
 -- src/order.rt:126:38
 shared-slice-read-wide-2 : tie.Need-shared-slice-read-wide-2
-shared-slice-read-wide-2 c = let t = frames-fine (c .before .before .before) .systemThere in omega arith
+shared-slice-read-wide-2 c = let t = keys-fine (c .before .before .before) .systemThere in omega arith
 
 -- src/order.rt:126:33
 wide-requires-2 : tie.Need-wide-requires-2
@@ -82,7 +82,7 @@ refuse-requires-2 c κs = search needs
 -- src/order.rt:127:9
 returns-3 : tie.Need-returns-3
 unfolding openCheck
-returns-3 c = c .refuse2 .ensures ∙ test-goes-on _ _ _ (eq-eqb _ ANSWERED (c .before .before .before .before .before .before .before .before .before .before .if1 .left)) (goes-on (c .before .before .before .before .before .before .before .before .before .check-frames .ensures) (c .before .before .before .before .before .before .before .enum-told .given .1) (test-stops _ _ _ _ (rw (c .before .before .before .before .before .wide .ensures .0, c .before .before .before .wide2 .ensures .0) at (sym (c .before .before .record-fits .ensures)) ∙ not-true (c .before .before .record-fits .result) (c .before .if2 .taken))))
+returns-3 c = c .refuse2 .ensures ∙ test-goes-on _ _ _ (eq-eqb _ ANSWERED (c .before .before .before .before .before .before .before .before .before .before .if1 .left)) (goes-on (c .before .before .before .before .before .before .before .before .before .check-keys .ensures) (c .before .before .before .before .before .before .before .enum-told .given .1) (test-stops _ _ _ _ (rw (c .before .before .before .before .before .wide .ensures .0, c .before .before .before .wide2 .ensures .0) at (sym (c .before .before .record-fits .ensures)) ∙ not-true (c .before .before .record-fits .result) (c .before .if2 .taken))))
 
 -- src/order.rt:129:9
 kept-fit-requires : tie.Need-kept-fit-requires
@@ -95,7 +95,7 @@ refuse-requires-3 c κs = search needs
 -- src/order.rt:130:9
 returns-4 : tie.Need-returns-4
 unfolding openCheck
-returns-4 c = c .refuse3 .ensures ∙ test-goes-on _ _ _ (eq-eqb _ ANSWERED (c .before .before .before .before .before .before .before .before .before .before .before .before .if1 .left)) (goes-on (c .before .before .before .before .before .before .before .before .before .before .before .check-frames .ensures) (c .before .before .before .before .before .before .before .before .before .enum-told .given .1) (test-goes-on _ _ _ (rw (c .before .before .before .before .before .before .before .wide .ensures .0, c .before .before .before .before .before .wide2 .ensures .0) at (sym (c .before .before .before .before .record-fits .ensures)) ∙ not-false (c .before .before .before .before .record-fits .result) (c .before .before .before .if2 .left)) (test-stops _ _ _ _ (sym (c .before .before .kept-fit .ensures) ∙ not-true (c .before .before .kept-fit .result) (c .before .if3 .taken)))))
+returns-4 c = c .refuse3 .ensures ∙ test-goes-on _ _ _ (eq-eqb _ ANSWERED (c .before .before .before .before .before .before .before .before .before .before .before .before .if1 .left)) (goes-on (c .before .before .before .before .before .before .before .before .before .before .before .check-keys .ensures) (c .before .before .before .before .before .before .before .before .before .enum-told .given .1) (test-goes-on _ _ _ (rw (c .before .before .before .before .before .before .before .wide .ensures .0, c .before .before .before .before .before .wide2 .ensures .0) at (sym (c .before .before .before .before .record-fits .ensures)) ∙ not-false (c .before .before .before .before .record-fits .result) (c .before .before .before .if2 .left)) (test-stops _ _ _ _ (sym (c .before .before .kept-fit .ensures) ∙ not-true (c .before .before .kept-fit .result) (c .before .if3 .taken)))))
 
 -- src/order.rt:132:9
 wide-requires-3 : tie.Need-wide-requires-3
@@ -116,7 +116,7 @@ enum-known-x-2 c = search needs
 -- src/order.rt:134:9
 returns-5 : tie.Need-returns-5
 unfolding openCheck
-returns-5 c = test-goes-on _ _ _ (eq-eqb _ ANSWERED (c .before .before .before .before .before .before .before .before .before .before .before .before .before .before .before .before .before .if1 .left)) (goes-on (c .before .before .before .before .before .before .before .before .before .before .before .before .before .before .before .before .check-frames .ensures) (c .before .before .before .before .before .before .before .before .before .before .before .before .before .before .enum-told .given .1) (test-goes-on _ _ _ (rw (c .before .before .before .before .before .before .before .before .before .before .before .before .wide .ensures .0, c .before .before .before .before .before .before .before .before .before .before .wide2 .ensures .0) at (sym (c .before .before .before .before .before .before .before .before .before .record-fits .ensures)) ∙ not-false (c .before .before .before .before .before .before .before .before .before .record-fits .result) (c .before .before .before .before .before .before .before .before .if2 .left)) (test-goes-on _ _ _ (sym (c .before .before .before .before .before .before .before .kept-fit .ensures) ∙ not-false (c .before .before .before .before .before .before .before .kept-fit .result) (c .before .before .before .before .before .before .if3 .left)) (frame-stops _ ((rw (c .before .before .before .before .exactly .ensures, c .before .before .before .before .before .before .before .before .before .before .before .before .wide .ensures .0, c .before .before .before .before .before .wide3 .ensures .0) at (c .before .before .before .read-frame .ensures)) .says) (c .before .x2 .given .1)))))
+returns-5 c = test-goes-on _ _ _ (eq-eqb _ ANSWERED (c .before .before .before .before .before .before .before .before .before .before .before .before .before .before .before .before .before .if1 .left)) (goes-on (c .before .before .before .before .before .before .before .before .before .before .before .before .before .before .before .before .check-keys .ensures) (c .before .before .before .before .before .before .before .before .before .before .before .before .before .before .enum-told .given .1) (test-goes-on _ _ _ (rw (c .before .before .before .before .before .before .before .before .before .before .before .before .wide .ensures .0, c .before .before .before .before .before .before .before .before .before .before .wide2 .ensures .0) at (sym (c .before .before .before .before .before .before .before .before .before .record-fits .ensures)) ∙ not-false (c .before .before .before .before .before .before .before .before .before .record-fits .result) (c .before .before .before .before .before .before .before .before .if2 .left)) (test-goes-on _ _ _ (sym (c .before .before .before .before .before .before .before .kept-fit .ensures) ∙ not-false (c .before .before .before .before .before .before .before .kept-fit .result) (c .before .before .before .before .before .before .if3 .left)) (frame-stops _ ((rw (c .before .before .before .before .exactly .ensures, c .before .before .before .before .before .before .before .before .before .before .before .before .wide .ensures .0, c .before .before .before .before .before .wide3 .ensures .0) at (c .before .before .before .read-frame .ensures)) .says) (c .before .x2 .given .1)))))
 
 enum-told-2 : tie.Need-enum-told-2
 enum-told-2 c = search needs
@@ -131,12 +131,12 @@ add-check-rest c = let f = numbers-fit (c .before .before .before .before) in le
 
 -- src/order.rt:136:5
 check-rest-requires : tie.Need-check-rest-requires
-check-rest-requires c κs = let f = numbers-fit (c .before .before .before .before) in (frames-fine (c .before .before .before .before .before .before .before .before .before .before .before .before .before), omega (arith, f .1))
+check-rest-requires c κs = let f = numbers-fit (c .before .before .before .before) in (keys-fine (c .before .before .before .before .before .before .before .before .before .before .before .before .before), omega (arith, f .1))
 
 -- src/order.rt:108:1
 returns-6 : tie.Need-returns-6
 unfolding openCheck
-returns-6 c = test-goes-on _ _ _ (eq-eqb _ ANSWERED (c .before .before .before .before .before .before .before .before .before .before .before .before .before .before .before .before .before .if1 .left)) (goes-on (c .before .before .before .before .before .before .before .before .before .before .before .before .before .before .before .before .check-frames .ensures) (c .before .before .before .before .before .before .before .before .before .before .before .before .before .before .enum-told .given .1) (test-goes-on _ _ _ (rw (c .before .before .before .before .before .before .before .before .before .before .before .before .wide .ensures .0, c .before .before .before .before .before .before .before .before .before .before .wide2 .ensures .0) at (sym (c .before .before .before .before .before .before .before .before .before .record-fits .ensures)) ∙ not-false (c .before .before .before .before .before .before .before .before .before .record-fits .result) (c .before .before .before .before .before .before .before .before .if2 .left)) (test-goes-on _ _ _ (sym (c .before .before .before .before .before .before .before .kept-fit .ensures) ∙ not-false (c .before .before .before .before .before .before .before .kept-fit .result) (c .before .before .before .before .before .before .if3 .left)) (frame-goes-on ((rw (c .before .before .before .before .exactly .ensures, c .before .before .before .before .before .before .before .before .before .before .before .before .wide .ensures .0, c .before .before .before .before .before .wide3 .ensures .0) at (c .before .before .before .read-frame .ensures)) .says) (c .before .enum-told2 .given .1) (rw (c .before .before .before .before .before .before .before .before .before .before .before .before .wide .ensures .0, c .before .before .before .before .before .wide3 .ensures .0) at (c .check-rest .ensures))))))
+returns-6 c = test-goes-on _ _ _ (eq-eqb _ ANSWERED (c .before .before .before .before .before .before .before .before .before .before .before .before .before .before .before .before .before .if1 .left)) (goes-on (c .before .before .before .before .before .before .before .before .before .before .before .before .before .before .before .before .check-keys .ensures) (c .before .before .before .before .before .before .before .before .before .before .before .before .before .before .enum-told .given .1) (test-goes-on _ _ _ (rw (c .before .before .before .before .before .before .before .before .before .before .before .before .wide .ensures .0, c .before .before .before .before .before .before .before .before .before .before .wide2 .ensures .0) at (sym (c .before .before .before .before .before .before .before .before .before .record-fits .ensures)) ∙ not-false (c .before .before .before .before .before .before .before .before .before .record-fits .result) (c .before .before .before .before .before .before .before .before .if2 .left)) (test-goes-on _ _ _ (sym (c .before .before .before .before .before .before .before .kept-fit .ensures) ∙ not-false (c .before .before .before .before .before .before .before .kept-fit .result) (c .before .before .before .before .before .before .if3 .left)) (frame-goes-on ((rw (c .before .before .before .before .exactly .ensures, c .before .before .before .before .before .before .before .before .before .before .before .before .wide .ensures .0, c .before .before .before .before .before .wide3 .ensures .0) at (c .before .before .before .read-frame .ensures)) .says) (c .before .enum-told2 .given .1) (rw (c .before .before .before .before .before .before .before .before .before .before .before .before .wide .ensures .0, c .before .before .before .before .before .wide3 .ensures .0) at (c .check-rest .ensures))))))
 
 pub check-open-spec : {M : Type 1} → statement M
 check-open-spec =
@@ -144,7 +144,7 @@ check-open-spec =
     (tie.spec
     refuse-requires
     returns
-    check-frames-requires
+    check-keys-requires
     enum-known-x
     returns-2
     enum-told

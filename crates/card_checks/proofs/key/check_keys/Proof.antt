@@ -1,17 +1,17 @@
--- `check_frames` meets its contract: the chain, as the code goes through it.
+-- `check_keys` meets its contract: the chain, as the code goes through it.
 use Prim.Native.Nat.{_≤_}
 use native.Mathlib.Omega.{arith}
 use borrow.Author.Needs.{needs}
 use Rattle.algebra.specs.Permutations.{longest}
-use Rattle.card_checks.proofs.Orders.{bad-public, bad-secret, bad-system, good-frames}
+use Rattle.card_checks.proofs.Orders.{bad-public, bad-secret, bad-system, good-keys}
 use Rattle.card_checks.specs.Keys.{keys}
 use Rattle.frames.proofs.Facts.{FrameFits, frame-fits}
 use Rattle.frames.proofs.Passing.{system-fits}
 use Rattle.frames.specs.Kinds.{alone}
 use Rattle.frames.specs.Writing.{frame}
 use Rattle.frames.specs.declared.kind.Kind.the-variants.{System}
-use Rattle.card_checks.proofs.key.check_frames.Statement.{statement}
-use Rattle.card_checks.proofs.key.check_frames.Tie as tie
+use Rattle.card_checks.proofs.key.check_keys.Statement.{statement}
+use Rattle.card_checks.proofs.key.check_keys.Tie as tie
 
 -- past the system's frame
 system-fine : (c : tie.After-enum-told) → FrameFits System alone (c .before .before .before .before .before .before .args .system .now)
@@ -83,10 +83,10 @@ enum-told-3 c = search needs
 
 -- src/key.rt:19:1
 returns-4 : tie.Need-returns-4
-returns-4 c = good-frames (keys (c .before .before .before .before .before .before .before .before .before .before .before .before .before .before .before .before .args .system .now) (c .before .before .before .before .before .before .before .before .before .before .before .before .before .before .before .before .args .public .now) (c .before .before .before .before .before .before .before .before .before .before .before .before .before .before .before .before .args .secret .now)) _ (c .before .before .before .before .before .before .before .before .before .before .before .before .read-system .ensures) _ _ _ (c .before .before .before .before .before .before .before .before .before .before .enum-told .given .1) _ (rw (c .before .before .before .before .before .before .before .of-places .ensures, c .before .before .before .before .before .before .before .before .wide .ensures .0) at (c .before .before .before .before .before .before .read-frame .ensures)) _ _ _ (c .before .before .before .before .enum-told2 .given .1) _ (rw (c .before .before .before .of-places2 .ensures, c .before .before .before .before .before .before .before .before .wide .ensures .0) at (c .before .before .read-frame2 .ensures)) _ _ _ (c .enum-told3 .given .1)
+returns-4 c = good-keys (keys (c .before .before .before .before .before .before .before .before .before .before .before .before .before .before .before .before .args .system .now) (c .before .before .before .before .before .before .before .before .before .before .before .before .before .before .before .before .args .public .now) (c .before .before .before .before .before .before .before .before .before .before .before .before .before .before .before .before .args .secret .now)) _ (c .before .before .before .before .before .before .before .before .before .before .before .before .read-system .ensures) _ _ _ (c .before .before .before .before .before .before .before .before .before .before .enum-told .given .1) _ (rw (c .before .before .before .before .before .before .before .of-places .ensures, c .before .before .before .before .before .before .before .before .wide .ensures .0) at (c .before .before .before .before .before .before .read-frame .ensures)) _ _ _ (c .before .before .before .before .enum-told2 .given .1) _ (rw (c .before .before .before .of-places2 .ensures, c .before .before .before .before .before .before .before .before .wide .ensures .0) at (c .before .before .read-frame2 .ensures)) _ _ _ (c .enum-told3 .given .1)
 
-pub check-frames-spec : {M : Type 1} → statement M
-check-frames-spec =
+pub check-keys-spec : {M : Type 1} → statement M
+check-keys-spec =
     tie.close
     (tie.spec
     read-system-requires
