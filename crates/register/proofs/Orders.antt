@@ -1,0 +1,52 @@
+-- Laws of the order of refusals, an answer each, as the code finds them. The frames have theirs in crate `frames`.
+use mathlib.Core.Path.{_≡_, sym, ap, _∙_}
+use mathlib.Core.Bool.{true, false}
+use mathlib.Core.List.{List, [], _∷_}
+use Prim.Native.Nat.{ℕ}
+use borrow.Author.Tests.{eq-eqb, ne-eqb}
+use lib.Dec.{leb}
+use Rattle.refusals.specs.declared.Checked.{Checked}
+use Rattle.refusals.specs.declared.Checked.the-variants.{Fine}
+use Rattle.refusals.specs.Number.{WEAK}
+use Rattle.refusals.specs.Buffer.{NONE, OPENINGS}
+use Rattle.refusals.specs.Told.{Told, done, refused, means}
+use Rattle.refusals.proofs.Chain.{goes-on}
+use Rattle.register.specs.Verdict.{SignOn, roundsOf, framesCheck, enough, roundsPassed, bitOf, numberOf, roundsCheck, judging}
+
+-- ---- the grades
+
+module _ (grade N : ℕ) where
+  pub inspector : grade ≡ 1 → leb 20 N ≡ enough grade N
+  unfolding enough
+  inspector e = rw (eq-eqb grade 1 e)
+
+  pub keeper : (grade ≡ 1 → ⊥) → grade ≡ 2 → leb 31 N ≡ enough grade N
+  unfolding enough
+  keeper f e = rw (ne-eqb grade 1 f, eq-eqb grade 2 e)
+
+  pub no-grade : (grade ≡ 1 → ⊥) → (grade ≡ 2 → ⊥) → false ≡ enough grade N
+  unfolding enough
+  no-grade f g = rw (ne-eqb grade 1 f, ne-eqb grade 2 g)
+
+-- ---- past the frames
+
+module _ (grade : ℕ) (x : SignOn) (frames : Checked) (m : means frames ≡ framesCheck x) (e : frames ≡ Fine) where
+  pub too-weak : enough grade (roundsOf x) ≡ false → refused WEAK NONE 0 ≡ judging grade x
+  unfolding judging
+  too-weak t = goes-on m e (rw t)
+
+  pub rounds-decide : enough grade (roundsOf x) ≡ true → (t : Told) → t ≡ roundsCheck x → t ≡ judging grade x
+  unfolding judging
+  rounds-decide s t d = goes-on m e (rw s d)
+
+-- ---- the rounds; `passed` is what the code finds, and N what it has read
+
+module _ (x : SignOn) (passed N : ℕ) (e : passed ≡ roundsPassed x) (q : N ≡ roundsOf x) where
+  pub all-passed : passed ≡ N → done (N ∷ []) ≡ roundsCheck x
+  unfolding roundsCheck
+  all-passed z = rw (eq-eqb (roundsPassed x) (roundsOf x) (sym e ∙ z ∙ q), q)
+
+  pub round-failed : (passed ≡ N → ⊥) → (number : ℕ) → number ≡ numberOf (bitOf x passed) → refused number OPENINGS passed ≡ roundsCheck x
+  unfolding roundsCheck
+  round-failed f number d =
+      rw (ne-eqb (roundsPassed x) (roundsOf x) (λ z. f (e ∙ z ∙ sym q)), ← e) (ap (λ (k : ℕ). refused k OPENINGS passed) d)
