@@ -4,3 +4,4 @@ pub mod Facts
 pub mod Outcomes
 pub mod Exact
 pub mod Cuts
+pub mod Examples
