@@ -5,7 +5,7 @@ use mathlib.Core.Path.{_≡_, refl, sym, ap, _∙_, subst}
 use mathlib.Core.Bool.{Bool, true, false, cond, not, false≢true}
 use mathlib.Core.List.{List, [], _∷_}
 use mathlib.Core.Logic.{_⊎_, inl, inr}
-use Prim.Native.Nat.{ℕ, _≤_, _<_}
+use Prim.Native.Nat.{ℕ, _<_}
 use native.Mathlib.Decide.{ℕ-discrete, decLt}
 use native.Mathlib.Omega.{arith}
 use borrow.Author.Tests.{eqb-true, eq-eqb, ne-eqb, not-false, not-true}
@@ -18,22 +18,23 @@ use Rattle.refusals.specs.Told.{Told, done, refused, fine, first, demand}
 use Rattle.refusals.proofs.Chain.{Passed, first-done, first-refused, demand-done, AtMost, done-most, demand-most, first-most}
 use Rattle.frames.specs.declared.kind.Kind.the-variants.{System, Public, Commitments, Challenges, Answers, Bits, Openings}
 use Rattle.frames.specs.Kinds.{alone, ofPlaces, exactly}
-use Rattle.frames.specs.Reading.{firstOf, reading}
+use Rattle.frames.specs.Reading.{reading}
 use Rattle.frames.proofs.Facts.{fits-read, test-holds, rest-done}
 use Rattle.frames.proofs.Outcomes.{reading-most}
-use Rattle.rounds.specs.Rounds.{failsAt}
 use Rattle.rounds.proofs.Runs.{failing-found, all-pass}
 use Rattle.register.specs.declared.Verdict.{Verdict}
 use Rattle.register.specs.declared.Verdict.the-variants.{Accepted, Refused}
-use Rattle.register.specs.Verdict.{SignOn, placesOf, roundsOf, openerCheck, exchangeCheck, framesCheck, enough, systemIn, vectorIn, messagesIn, bitOf, roundPasses, roundsPassed, numberOf, roundsCheck, judging, verdictMeans, Judges}
+use Rattle.register.specs.Verdict.{SignOn, placesOf, roundsOf, basisCheck, exchangeCheck, framesCheck, enough, systemIn, vectorIn, messagesIn, bitOf, roundPasses, roundsPassed, numberOf, roundsCheck, judging, verdictMeans, Judges}
 use Rattle.register.proofs.Facts.{FramesFit, frames-told}
 use Rattle.register.proofs.Outcomes.{verdict-fixes}
 
+-- when a sign-on is accepted
 pub record Accepts (grade : ℕ) (x : SignOn) : Type 0 where
   pub frames : FramesFit x
   pub suffices : enough grade (roundsOf x) ≡ true
   pub pass : (k : ℕ) → k < roundsOf x → roundPasses x k ≡ true
 
+-- when it fails at round r, which is of the bit
 pub record Fails (grade : ℕ) (x : SignOn) (bit : Bool) (r : ℕ) : Type 0 where
   pub frames : FramesFit x
   pub suffices : enough grade (roundsOf x) ≡ true
@@ -45,14 +46,14 @@ pub record Fails (grade : ℕ) (x : SignOn) (bit : Bool) (r : ℕ) : Type 0 wher
 -- ---- frames and grade
 
 frames-fine : (x : SignOn) → FramesFit x → framesCheck x ≡ fine
-unfolding framesCheck openerCheck exchangeCheck
+unfolding framesCheck basisCheck exchangeCheck
 frames-fine x h =
     let n = placesOf x in
     let q = exactly (placesOf x) (roundsOf x) in
     rw (
-      fits-read System alone (x .system) (h .opener .system),
-      fits-read Public (ofPlaces n) (x .key) (h .opener .key),
-      fits-read Commitments (ofPlaces n) (x .commitments) (h .opener .commitments),
+      fits-read System alone (x .system) (h .basis .system),
+      fits-read Public (ofPlaces n) (x .key) (h .basis .key),
+      fits-read Commitments (ofPlaces n) (x .commitments) (h .basis .commitments),
       fits-read Challenges q (x .challenges) (h .exchange .challenges),
       fits-read Answers q (x .answers) (h .exchange .answers),
       fits-read Bits q (x .bits) (h .exchange .bits),
@@ -61,7 +62,7 @@ frames-fine x h =
 
 -- frames refuse by the numbers up to PERM alone
 frames-most : (x : SignOn) → AtMost PERM (framesCheck x)
-unfolding framesCheck openerCheck exchangeCheck
+unfolding framesCheck basisCheck exchangeCheck
 frames-most x =
     let n = placesOf x in
     let q = exactly n (roundsOf x) in

@@ -12,7 +12,7 @@ use Rattle.algebra.specs.Lists.{allBelow, count, stretch}
 use Rattle.algebra.specs.Permutations.{isPerm}
 use Rattle.frames.specs.PackedBits.{bitAt, unusedClear}
 use Rattle.frames.specs.Reading.{header, shape, values, permutations, reading}
-use Rattle.register.specs.Verdict.{signOn, openerCheck, exchangeCheck, framesCheck, enough, judging}
+use Rattle.register.specs.Verdict.{signOn, basisCheck, exchangeCheck, framesCheck, enough, judging}
 use Rattle.register.specs.Cutting.{front, behind, signOnOf, judgingInput}
 
 abbrev system : List ℕ
@@ -41,7 +41,7 @@ abbrev sample : List ℕ → List ℕ
 sample more = 1 ∷ (system ++ key ++ commitments ++ challenges ++ answers ++ bits ++ openings ++ more)
 
 sample-weak : judgingInput (sample []) ≡ refused WEAK NONE 0
-unfolding judgingInput signOnOf front behind judging framesCheck openerCheck exchangeCheck enough reading header shape values permutations firstBelow isPerm allBelow count stretch unusedClear bitAt
+unfolding judgingInput signOnOf front behind judging framesCheck basisCheck exchangeCheck enough reading header shape values permutations firstBelow isPerm allBelow count stretch unusedClear bitAt
 sample-weak = refl
 
 -- the frames in order, all of them before the grade: there is no grade 0
@@ -56,7 +56,7 @@ frames-in-order : (told [] [] [] [] [] [] [] ≡ refused SHORT SYSTEM 0)
     × (told system key commitments challenges answers [] [] ≡ refused SHORT BITS 0)
     × (told system key commitments challenges answers bits [] ≡ refused SHORT OPENINGS 0)
     × (told system key commitments challenges answers bits openings ≡ refused WEAK NONE 0)
-unfolding judging framesCheck openerCheck exchangeCheck enough reading header shape values permutations firstBelow isPerm allBelow count stretch unusedClear bitAt
+unfolding judging framesCheck basisCheck exchangeCheck enough reading header shape values permutations firstBelow isPerm allBelow count stretch unusedClear bitAt
 frames-in-order = (refl, refl, refl, refl, refl, refl, refl, refl)
 
 -- frames that are well formed alone and differ from an earlier one: n = 2, or N = 2
@@ -65,7 +65,7 @@ frames-agree : (told system (0 ∷ 5 ∷ 1 ∷ 2 ∷ 2 ∷ 3 ∷ 240 ∷ []) [] 
     × (told system key commitments challenges (0 ∷ 6 ∷ 1 ∷ 6 ∷ 2 ∷ 1 ∷ 41 ∷ 45 ∷ []) [] [] ≡ refused SHAPE ANSWERS 4)
     × (told system key commitments challenges answers (0 ∷ 4 ∷ 1 ∷ 7 ∷ 2 ∷ 0 ∷ []) [] ≡ refused SHAPE BITS 4)
     × (told system key commitments challenges answers bits (0 ∷ 6 ∷ 1 ∷ 8 ∷ 2 ∷ 1 ∷ 1 ∷ 0 ∷ []) ≡ refused SHAPE OPENINGS 4)
-unfolding judging framesCheck openerCheck exchangeCheck reading header shape values permutations firstBelow unusedClear allBelow bitAt
+unfolding judging framesCheck basisCheck exchangeCheck reading header shape values permutations firstBelow unusedClear allBelow bitAt
 frames-agree = (refl, refl, refl, refl, refl)
 
 grades : (enough 1 19 ≡ false) × (enough 1 20 ≡ true) × (enough 2 30 ≡ false) × (enough 2 31 ≡ true) × (enough 0 64 ≡ false) × (enough 3 64 ≡ false)
@@ -82,5 +82,5 @@ cutting : (judgingInput (sample (0 ∷ [])) ≡ refused LONG OPENINGS 0)
     × (judgingInput [] ≡ refused SHORT SYSTEM 0)
     × (front (0 ∷ 0 ∷ 1 ∷ 1 ∷ []) ≡ 0 ∷ 0 ∷ [])
     × (behind (0 ∷ 1 ∷ 1 ∷ 1 ∷ []) ≡ 1 ∷ [])
-unfolding judgingInput signOnOf front behind judging framesCheck openerCheck exchangeCheck reading header shape values permutations firstBelow unusedClear allBelow bitAt
+unfolding judgingInput signOnOf front behind judging framesCheck basisCheck exchangeCheck reading header shape values permutations firstBelow unusedClear allBelow bitAt
 cutting = (refl, refl, refl, refl, refl, refl)

@@ -1,7 +1,7 @@
 -- What frames that are refused nothing say, as plain facts.
-use mathlib.Core.Path.{_≡_, refl, sym, ap, ap₂, _∙_, subst}
+use mathlib.Core.Path.{_≡_, refl, ap, ap₂, _∙_, subst}
 use mathlib.Core.List.{List}
-use Prim.Native.Nat.{ℕ, _+_, _-_, _*_, _/_, _≤_, _<_}
+use Prim.Native.Nat.{ℕ, _-_, _*_, _/_, _≤_, _<_}
 use native.Mathlib.Nat.{mul-comm}
 use native.Mathlib.Omega.{arith}
 use lib.ListN.{length, take, drop}
@@ -14,7 +14,7 @@ use Rattle.frames.specs.declared.kind.Kind.the-variants.{System, Public, Commit
 use Rattle.frames.specs.Kinds.{alone, ofPlaces, exactly}
 use Rattle.frames.specs.Reading.{firstOf, secondOf, restOf, reading}
 use Rattle.frames.specs.PackedBits.{bitAt}
-use Rattle.frames.proofs.Facts.{Shaped, FrameFits, reading-told, first-within, first-asked, second-asked, rest-length}
+use Rattle.frames.proofs.Facts.{FrameFits, reading-told, first-within, first-asked, second-asked, rest-length}
 use Rattle.frames.proofs.Orders.{rest-part}
 use Rattle.frames.proofs.Passing.{system-fits}
 use Rattle.frames.proofs.Chosen.{values-told, permutations-told}
@@ -22,11 +22,11 @@ use Rattle.round.specs.Round.{systemOf}
 use Rattle.rounds.specs.Layout.{Messages, messages, MessagesFit}
 use Rattle.rounds.specs.Rounds.{firstFailing}
 use Rattle.rounds.proofs.Runs.{failing-found}
-use Rattle.register.specs.Verdict.{SignOn, placesOf, roundsOf, openerCheck, exchangeCheck, framesCheck, systemIn, vectorIn, messagesIn, roundsPassed, SignOnFits}
+use Rattle.register.specs.Verdict.{SignOn, placesOf, roundsOf, basisCheck, exchangeCheck, framesCheck, systemIn, vectorIn, messagesIn, roundsPassed, SignOnFits}
 
 -- ---- every frame is well formed and agrees with the earlier ones
 
-pub record OpenerFits (s v c : List ℕ) : Type 0 where
+pub record BasisFits (s v c : List ℕ) : Type 0 where
   pub system : FrameFits System alone s
   pub key : FrameFits Public (ofPlaces (firstOf s)) v
   pub commitments : FrameFits Commitments (ofPlaces (firstOf s)) c
@@ -38,12 +38,12 @@ pub record ExchangeFits (n N : ℕ) (c w b o : List ℕ) : Type 0 where
   pub openings : FrameFits Openings (exactly n N) o
 
 pub record FramesFit (x : SignOn) : Type 0 where
-  pub opener : OpenerFits (x .system) (x .key) (x .commitments)
+  pub basis : BasisFits (x .system) (x .key) (x .commitments)
   pub exchange : ExchangeFits (placesOf x) (roundsOf x) (x .challenges) (x .answers) (x .bits) (x .openings)
 
-pub opener-told : (system key commitments v : List ℕ) → openerCheck system key commitments ≡ done v → OpenerFits system key commitments
-unfolding openerCheck
-opener-told system key commitments v e =
+pub basis-told : (system key commitments v : List ℕ) → basisCheck system key commitments ≡ done v → BasisFits system key commitments
+unfolding basisCheck
+basis-told system key commitments v e =
     let n = firstOf system in
     let r3 : Told = first (reading Commitments (ofPlaces n) commitments) fine in
     let r2 : Told = first (reading Public (ofPlaces n) key) r3 in
@@ -79,14 +79,14 @@ pub frames-told : (x : SignOn) (v : List ℕ) → framesCheck x ≡ done v → F
 unfolding framesCheck
 frames-told x v e =
     let r = exchangeCheck (placesOf x) (roundsOf x) (x .challenges) (x .answers) (x .bits) (x .openings) in
-    let a = first-done (openerCheck (x .system) (x .key) (x .commitments)) r v e in
+    let a = first-done (basisCheck (x .system) (x .key) (x .commitments)) r v e in
     record {
-      opener = opener-told (x .system) (x .key) (x .commitments) (a .0 .0) (a .0 .1);
+      basis = basis-told (x .system) (x .key) (x .commitments) (a .0 .0) (a .0 .1);
       exchange = exchange-told (placesOf x) (roundsOf x) (x .challenges) (x .answers) (x .bits) (x .openings) v (a .1);
     }
 
 -- n and N are at most 64
-pub numbers-most : (system key commitments : List ℕ) → OpenerFits system key commitments → (firstOf system ≤ longest) × (firstOf commitments ≤ longest)
+pub numbers-most : (system key commitments : List ℕ) → BasisFits system key commitments → (firstOf system ≤ longest) × (firstOf commitments ≤ longest)
 numbers-most system key commitments h =
     let n = firstOf system in
     let w = first-within System alone n (secondOf System system) (h .system .form .numbers) in
@@ -129,20 +129,20 @@ messages-fit n N commitments challenges answers bits openings most size h =
 pub sign-on-fits : (x : SignOn) → FramesFit x → SignOnFits x
 sign-on-fits x h =
     let n = placesOf x in
-    let key = h .opener .key .form in
-    let commitments = h .opener .commitments .form in
+    let key = h .basis .key .form in
+    let commitments = h .basis .commitments .form in
     record {
-      systemThere = h .opener .system .form .there;
+      systemThere = h .basis .system .form .there;
       keyThere = key .there;
       commitmentsThere = commitments .there;
       challengesThere = h .exchange .challenges .form .there;
       answersThere = h .exchange .answers .form .there;
       bitsThere = h .exchange .bits .form .there;
       openingsThere = h .exchange .openings .form .there;
-      systemFits = system-fits (x .system) (h .opener .system);
+      systemFits = system-fits (x .system) (h .basis .system);
       vectorFits = rest-length Public (ofPlaces n) (x .key) key ∙ first-asked Public (ofPlaces n) (x .key) key n refl;
       messagesFit = messages-fit n (roundsOf x) (x .commitments) (x .challenges) (x .answers) (x .bits) (x .openings)
-          (numbers-most (x .system) (x .key) (x .commitments) (h .opener) .1)
+          (numbers-most (x .system) (x .key) (x .commitments) (h .basis) .1)
           (rest-length Commitments (ofPlaces n) (x .commitments) commitments)
           (h .exchange);
     }

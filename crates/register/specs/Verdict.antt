@@ -9,9 +9,7 @@ use Rattle.refusals.specs.Number.{WEAK, FIRST, SECOND}
 use Rattle.refusals.specs.Buffer.{NONE, OPENINGS}
 use Rattle.refusals.specs.Told.{Told, done, refused, told, fine, first, demand}
 use Rattle.algebra.specs.Matrices.{SystemFits}
-use Rattle.frames.specs.declared.kind.Kind.{Kind}
 use Rattle.frames.specs.declared.kind.Kind.the-variants.{System, Public, Commitments, Challenges, Answers, Bits, Openings}
-use Rattle.frames.specs.declared.kind.Expected.{Expected}
 use Rattle.frames.specs.Kinds.{alone, ofPlaces, exactly}
 use Rattle.frames.specs.Reading.{firstOf, secondOf, restOf, reading}
 use Rattle.frames.specs.PackedBits.{bitAt}
@@ -45,8 +43,8 @@ roundsOf x = firstOf (x .commitments)
 -- ---- the frames in order; the later buffer is the one that differs
 
 -- the system, the public key and the commitments, which fix n and N
-unfoldable pub openerCheck : List ℕ → List ℕ → List ℕ → Told
-openerCheck system key commitments =
+unfoldable pub basisCheck : List ℕ → List ℕ → List ℕ → Told
+basisCheck system key commitments =
     first (reading System alone system)
     (first (reading Public (ofPlaces (firstOf system)) key)
     (first (reading Commitments (ofPlaces (firstOf system)) commitments) fine))
@@ -61,7 +59,7 @@ exchangeCheck n N challenges answers bits openings =
 
 unfoldable pub framesCheck : SignOn → Told
 framesCheck x =
-    first (openerCheck (x .system) (x .key) (x .commitments))
+    first (basisCheck (x .system) (x .key) (x .commitments))
     (exchangeCheck (placesOf x) (roundsOf x) (x .challenges) (x .answers) (x .bits) (x .openings))
 
 -- ---- the grade: 1 is the inspector, 2 the register keeper

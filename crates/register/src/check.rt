@@ -11,11 +11,11 @@ ghost use mathlib.Core.Path.{_≡_};
 ghost use Prim.Native.Nat.{_≤_};
 ghost use Rattle.refusals.specs.Told.{means};
 ghost use Rattle.algebra.specs.Permutations.{longest};
-ghost use Rattle.register.specs.Verdict.{signOn, openerCheck, exchangeCheck, framesCheck};
+ghost use Rattle.register.specs.Verdict.{signOn, basisCheck, exchangeCheck, framesCheck};
 
 // The system, the public key and the commitments, which fix n and N.
-fn check_opener(system: &[u8], key: &[u8], commitments: &[u8]) -> Checked
-    ensures { λ r. ⌜ means r ≡ openerCheck (now (system .entry)) (now (key .entry)) (now (commitments .entry)) ⌝ }
+fn check_basis(system: &[u8], key: &[u8], commitments: &[u8]) -> Checked
+    ensures { λ r. ⌜ means r ≡ basisCheck (now (system .entry)) (now (key .entry)) (now (commitments .entry)) ⌝ }
 {
     if let Read::Refused(x) = read_system(system) {
         return Checked::Refused(x);
@@ -70,7 +70,7 @@ pub fn check_frames(
 ) -> Checked
     ensures { λ r. ⌜ means r ≡ framesCheck (signOn (now (system .entry)) (now (key .entry)) (now (commitments .entry)) (now (challenges .entry)) (now (answers .entry)) (now (bits .entry)) (now (openings .entry))) ⌝ }
 {
-    if let Checked::Refused(x) = check_opener(system, key, commitments) {
+    if let Checked::Refused(x) = check_basis(system, key, commitments) {
         return Checked::Refused(x);
     }
     let n = wide(system[4]);

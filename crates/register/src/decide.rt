@@ -13,8 +13,7 @@ use refusals::number::SECOND;
 use refusals::number::WEAK;
 use rounds::register::first_failing;
 ghost use mathlib.Core.Path.{_≡_};
-ghost use Prim.Native.Nat.{_≤_};
-ghost use Rattle.register.specs.Verdict.{signOn, SignOnFits, roundsOf, roundsPassed, numberOf, roundsCheck, verdictMeans, Judges};
+ghost use Rattle.register.specs.Verdict.{signOn, SignOnFits, roundsPassed, numberOf, roundsCheck, verdictMeans, Judges};
 
 // The first round that does not pass, N where all do.
 fn rounds_passed(

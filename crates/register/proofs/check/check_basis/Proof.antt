@@ -1,4 +1,4 @@
--- `check_opener` meets its contract: the chain, as the code goes through it.
+-- `check_basis` meets its contract: the chain, as the code goes through it.
 use mathlib.Core.Path.{refl}
 use native.Mathlib.Omega.{arith}
 use borrow.Author.Needs.{needs}
@@ -8,9 +8,9 @@ use Rattle.frames.proofs.Passing.{system-fits}
 use Rattle.frames.specs.Kinds.{Modest, alone}
 use Rattle.frames.specs.Writing.{frame}
 use Rattle.frames.specs.declared.kind.Kind.the-variants.{System}
-use Rattle.register.specs.Verdict.{openerCheck}
-use Rattle.register.proofs.check.check_opener.Statement.{statement}
-use Rattle.register.proofs.check.check_opener.Tie as tie
+use Rattle.register.specs.Verdict.{basisCheck}
+use Rattle.register.proofs.check.check_basis.Statement.{statement}
+use Rattle.register.proofs.check.check_basis.Tie as tie
 
 -- past the system's frame
 system-fine : (c : tie.After-enum-told) → FrameFits System alone (c .before .before .before .before .before .before .args .system .now)
@@ -31,7 +31,7 @@ enum-known-x c = search needs
 
 -- src/check.rt:21:9
 returns : tie.Need-returns
-unfolding openerCheck
+unfolding basisCheck
 returns c = frame-stops _ (c .before .before .before .read-system .ensures .says) (c .before .x .given .1)
 
 enum-told : tie.Need-enum-told
@@ -59,7 +59,7 @@ enum-known-x-2 c = search needs
 
 -- src/check.rt:25:9
 returns-2 : tie.Need-returns-2
-unfolding openerCheck
+unfolding basisCheck
 returns-2 c = frame-goes-on (c .before .before .before .before .before .before .before .before .before .read-system .ensures .says) (c .before .before .before .before .before .before .before .enum-told .given .1) (frame-stops _ (rw (c .before .before .before .before .of-places .ensures, c .before .before .before .before .before .wide .ensures .0) at (c .before .before .before .read-frame .ensures .says)) (c .before .x2 .given .1))
 
 enum-told-2 : tie.Need-enum-told-2
@@ -75,7 +75,7 @@ enum-known-x-3 c = search needs
 
 -- src/check.rt:28:9
 returns-3 : tie.Need-returns-3
-unfolding openerCheck
+unfolding basisCheck
 returns-3 c =
     frame-goes-on (c .before .before .before .before .before .before .before .before .before .before .before .before .read-system .ensures .says) (c .before .before .before .before .before .before .before .before .before .before .enum-told .given .1)
     (frame-goes-on (rw (c .before .before .before .before .before .before .before .of-places .ensures, c .before .before .before .before .before .before .before .before .wide .ensures .0) at (c .before .before .before .before .before .before .read-frame .ensures .says)) (c .before .before .before .before .enum-told2 .given .1)
@@ -86,14 +86,14 @@ enum-told-3 c = search needs
 
 -- src/check.rt:17:1
 returns-4 : tie.Need-returns-4
-unfolding openerCheck
+unfolding basisCheck
 returns-4 c =
     frame-goes-on (c .before .before .before .before .before .before .before .before .before .before .before .read-system .ensures .says) (c .before .before .before .before .before .before .before .before .before .enum-told .given .1)
     (frame-goes-on (rw (c .before .before .before .before .before .before .of-places .ensures, c .before .before .before .before .before .before .before .wide .ensures .0) at (c .before .before .before .before .before .read-frame .ensures .says)) (c .before .before .before .enum-told2 .given .1)
     (frame-goes-on (rw (c .before .before .before .before .before .before .of-places .ensures, c .before .before .before .before .before .before .before .wide .ensures .0) at (c .before .before .read-frame2 .ensures .says)) (c .enum-told3 .given .1) refl))
 
-pub check-opener-spec : {M : Type 1} → statement M
-check-opener-spec =
+pub check-basis-spec : {M : Type 1} → statement M
+check-basis-spec =
     tie.close
     (tie.spec
     read-system-requires
