@@ -25,11 +25,9 @@ modest c =
 read-system-requires : tie.Need-read-system-requires
 read-system-requires c κs = search needs
 
--- src/check.rt:20:26
 enum-known-x : tie.Need-enum-known-x
 enum-known-x c = search needs
 
--- src/check.rt:21:9
 returns : tie.Need-returns
 unfolding basisCheck
 returns c = frame-stops _ (c .before .before .before .read-system .ensures .says) (c .before .x .given .1)
@@ -37,27 +35,21 @@ returns c = frame-stops _ (c .before .before .before .read-system .ensures .says
 enum-told : tie.Need-enum-told
 enum-told c = search needs
 
--- src/check.rt:23:35
 shared-slice-read-wide : tie.Need-shared-slice-read-wide
 shared-slice-read-wide c = let t = system-fine (c .before) .form .there in omega arith
 
--- src/check.rt:23:30
 wide-requires : tie.Need-wide-requires
 wide-requires c κs = search needs
 
--- src/check.rt:23:9
 of-places-requires : tie.Need-of-places-requires
 of-places-requires c κs = search needs
 
--- src/check.rt:24:31
 read-frame-requires : tie.Need-read-frame-requires
 read-frame-requires c κs = modest (c)
 
--- src/check.rt:24:26
 enum-known-x-2 : tie.Need-enum-known-x-2
 enum-known-x-2 c = search needs
 
--- src/check.rt:25:9
 returns-2 : tie.Need-returns-2
 unfolding basisCheck
 returns-2 c = frame-goes-on (c .before .before .before .before .before .before .before .before .before .read-system .ensures .says) (c .before .before .before .before .before .before .before .enum-told .given .1) (frame-stops _ (rw (c .before .before .before .before .of-places .ensures, c .before .before .before .before .before .wide .ensures .0) at (c .before .before .before .read-frame .ensures .says)) (c .before .x2 .given .1))
@@ -65,15 +57,12 @@ returns-2 c = frame-goes-on (c .before .before .before .before .before .before .
 enum-told-2 : tie.Need-enum-told-2
 enum-told-2 c = search needs
 
--- src/check.rt:27:31
 read-frame-requires-2 : tie.Need-read-frame-requires-2
 read-frame-requires-2 c κs = modest (c .before .before .before)
 
--- src/check.rt:27:26
 enum-known-x-3 : tie.Need-enum-known-x-3
 enum-known-x-3 c = search needs
 
--- src/check.rt:28:9
 returns-3 : tie.Need-returns-3
 unfolding basisCheck
 returns-3 c =
@@ -84,7 +73,6 @@ returns-3 c =
 enum-told-3 : tie.Need-enum-told-3
 enum-told-3 c = search needs
 
--- src/check.rt:17:1
 returns-4 : tie.Need-returns-4
 unfolding basisCheck
 returns-4 c =

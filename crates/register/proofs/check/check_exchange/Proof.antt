@@ -14,15 +14,12 @@ modest c = rw (c .exactly .ensures) (record { places = c .before .before .before
 exactly-requires : tie.Need-exactly-requires
 exactly-requires c κs = search needs
 
--- src/check.rt:46:31
 read-frame-requires : tie.Need-read-frame-requires
 read-frame-requires c κs = modest (c)
 
--- src/check.rt:46:26
 enum-known-x : tie.Need-enum-known-x
 enum-known-x c = search needs
 
--- src/check.rt:47:9
 returns : tie.Need-returns
 unfolding exchangeCheck
 returns c = frame-stops _ (rw (c .before .before .before .before .exactly .ensures) at (c .before .before .before .read-frame .ensures .says)) (c .before .x .given .1)
@@ -30,15 +27,12 @@ returns c = frame-stops _ (rw (c .before .before .before .before .exactly .ensur
 enum-told : tie.Need-enum-told
 enum-told c = search needs
 
--- src/check.rt:49:31
 read-frame-requires-2 : tie.Need-read-frame-requires-2
 read-frame-requires-2 c κs = modest (c .before .before .before)
 
--- src/check.rt:49:26
 enum-known-x-2 : tie.Need-enum-known-x-2
 enum-known-x-2 c = search needs
 
--- src/check.rt:50:9
 returns-2 : tie.Need-returns-2
 unfolding exchangeCheck
 returns-2 c =
@@ -48,15 +42,12 @@ returns-2 c =
 enum-told-2 : tie.Need-enum-told-2
 enum-told-2 c = search needs
 
--- src/check.rt:52:31
 read-frame-requires-3 : tie.Need-read-frame-requires-3
 read-frame-requires-3 c κs = modest (c .before .before .before .before .before .before)
 
--- src/check.rt:52:26
 enum-known-x-3 : tie.Need-enum-known-x-3
 enum-known-x-3 c = search needs
 
--- src/check.rt:53:9
 returns-3 : tie.Need-returns-3
 unfolding exchangeCheck
 returns-3 c =
@@ -67,15 +58,12 @@ returns-3 c =
 enum-told-3 : tie.Need-enum-told-3
 enum-told-3 c = search needs
 
--- src/check.rt:55:31
 read-frame-requires-4 : tie.Need-read-frame-requires-4
 read-frame-requires-4 c κs = modest (c .before .before .before .before .before .before .before .before .before)
 
--- src/check.rt:55:26
 enum-known-x-4 : tie.Need-enum-known-x-4
 enum-known-x-4 c = search needs
 
--- src/check.rt:56:9
 returns-4 : tie.Need-returns-4
 unfolding exchangeCheck
 returns-4 c =
@@ -87,7 +75,6 @@ returns-4 c =
 enum-told-4 : tie.Need-enum-told-4
 enum-told-4 c = search needs
 
--- src/check.rt:34:1
 returns-5 : tie.Need-returns-5
 unfolding exchangeCheck
 returns-5 c =

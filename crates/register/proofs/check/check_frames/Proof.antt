@@ -17,11 +17,9 @@ basis-fine c = basis-told _ _ _ [] (sym (c .before .before .check-basis .ensures
 check-basis-requires : tie.Need-check-basis-requires
 check-basis-requires c κs = search needs
 
--- src/check.rt:73:29
 enum-known-x : tie.Need-enum-known-x
 enum-known-x c = search needs
 
--- src/check.rt:74:9
 returns : tie.Need-returns
 unfolding framesCheck
 returns c = stops _ (c .before .before .before .check-basis .ensures) (c .before .x .given .1)
@@ -29,27 +27,21 @@ returns c = stops _ (c .before .before .before .check-basis .ensures) (c .before
 enum-told : tie.Need-enum-told
 enum-told c = search needs
 
--- src/check.rt:76:18
 shared-slice-read-wide : tie.Need-shared-slice-read-wide
 shared-slice-read-wide c = let t = basis-fine (c .before) .system .form .there in omega arith
 
--- src/check.rt:76:9
 wide-requires : tie.Need-wide-requires
 wide-requires c κs = search needs
 
--- src/check.rt:77:23
 shared-slice-read-wide-2 : tie.Need-shared-slice-read-wide-2
 shared-slice-read-wide-2 c = let t = basis-fine (c .before .before .before) .commitments .form .there in omega arith
 
--- src/check.rt:77:9
 wide-requires-2 : tie.Need-wide-requires-2
 wide-requires-2 c κs = search needs
 
--- src/check.rt:78:5
 check-exchange-requires : tie.Need-check-exchange-requires
 check-exchange-requires c κs = let m = numbers-most _ _ _ (basis-fine (c .before .before .before .before)) in (omega (arith, c .before .before .wide .ensures .0), omega (arith, c .wide2 .ensures .0))
 
--- src/check.rt:62:1
 returns-2 : tie.Need-returns-2
 unfolding framesCheck
 returns-2 c = goes-on (c .before .before .before .before .before .before .before .check-basis .ensures) (c .before .before .before .before .before .enum-told .given .1) (rw (c .before .before .before .wide .ensures .0, c .before .wide2 .ensures .0) at (c .check-exchange .ensures))

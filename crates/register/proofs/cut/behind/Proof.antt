@@ -11,19 +11,15 @@ use Rattle.register.proofs.cut.behind.Tie as tie
 front-end-requires : tie.Need-front-end-requires
 front-end-requires c κs = search needs
 
--- src/cut.rt:38:5
 sub-result : tie.Need-sub-result
 sub-result c = search needs
 
--- src/cut.rt:38:5
 part-result-start : tie.Need-part-result-start
 part-result-start c = search needs
 
--- src/cut.rt:38:5
 part-result-end : tie.Need-part-result-end
 part-result-end c = search needs
 
--- src/cut.rt:34:1
 returns : tie.Need-returns
 returns c =
     let s = c .before .before .before .args .s .now in

@@ -11,23 +11,18 @@ use Rattle.register.proofs.cut.frames_of.Tie as tie
 slice-aggregate-result : tie.Need-slice-aggregate-result
 slice-aggregate-result c = search needs
 
--- src/cut.rt:55:9
 returns : tie.Need-returns
 returns c = sym (drop-of-length-le (c .before .before .args .input .now) {i = 1} (omega arith))
 
--- src/cut.rt:57:5
 sub-result : tie.Need-sub-result
 sub-result c = search needs
 
--- src/cut.rt:57:5
 part-result-start : tie.Need-part-result-start
 part-result-start c = search needs
 
--- src/cut.rt:57:5
 part-result-end : tie.Need-part-result-end
 part-result-end c = search needs
 
--- src/cut.rt:51:1
 returns-2 : tie.Need-returns-2
 returns-2 c = let s = c .before .before .args .input .now in take-all (length s - 1) (drop 1 s) (omega (arith, length-drop 1 s))
 

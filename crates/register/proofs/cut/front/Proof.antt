@@ -8,11 +8,9 @@ use Rattle.register.proofs.cut.front.Tie as tie
 front-end-requires : tie.Need-front-end-requires
 front-end-requires c κs = search needs
 
--- src/cut.rt:30:5
 slice-aggregate-result : tie.Need-slice-aggregate-result
 slice-aggregate-result c = sym (length-take-le _ _ (c .before .front-end .ensures .most))
 
--- src/cut.rt:26:1
 returns : tie.Need-returns
 returns c = search needs
 

@@ -8,19 +8,15 @@ use Rattle.register.proofs.cut.front_end.Tie as tie
 returns : tie.Need-returns
 returns c = all-in-front _ (omega arith)
 
--- src/cut.rt:18:17
 count-of-requires : tie.Need-count-of-requires
 count-of-requires c κs = search needs
 
--- src/cut.rt:18:17
 add-whole : tie.Need-add-whole
 add-whole c = search needs
 
--- src/cut.rt:20:9
 returns-2 : tie.Need-returns-2
 returns-2 c = all-in-front _ (omega (arith, c .before .count-of .ensures .0))
 
--- src/cut.rt:12:1
 returns-3 : tie.Need-returns-3
 returns-3 c = counted _ _ (omega (arith, c .before .count-of .ensures .0)) (c .if2 .left)
 

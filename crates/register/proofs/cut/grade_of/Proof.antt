@@ -9,15 +9,12 @@ use Rattle.register.proofs.cut.grade_of.Tie as tie
 returns : tie.Need-returns
 returns c = sym (List·getD-eq-default (c .before .before .args .input .now) 0 (omega arith))
 
--- src/cut.rt:47:10
 shared-slice-read-wide : tie.Need-shared-slice-read-wide
 shared-slice-read-wide c = search needs
 
--- src/cut.rt:47:5
 wide-requires : tie.Need-wide-requires
 wide-requires c κs = search needs
 
--- src/cut.rt:41:1
 returns-2 : tie.Need-returns-2
 returns-2 c = search needs
 

@@ -7,63 +7,48 @@ use Rattle.register.proofs.cut.judge.Tie as tie
 frames-of-requires : tie.Need-frames-of-requires
 frames-of-requires c κs = search needs
 
--- src/cut.rt:65:9
 behind-requires : tie.Need-behind-requires
 behind-requires c κs = search needs
 
--- src/cut.rt:66:9
 behind-requires-2 : tie.Need-behind-requires-2
 behind-requires-2 c κs = search needs
 
--- src/cut.rt:67:9
 behind-requires-3 : tie.Need-behind-requires-3
 behind-requires-3 c κs = search needs
 
--- src/cut.rt:68:9
 behind-requires-4 : tie.Need-behind-requires-4
 behind-requires-4 c κs = search needs
 
--- src/cut.rt:69:9
 behind-requires-5 : tie.Need-behind-requires-5
 behind-requires-5 c κs = search needs
 
--- src/cut.rt:70:9
 behind-requires-6 : tie.Need-behind-requires-6
 behind-requires-6 c κs = search needs
 
--- src/cut.rt:72:9
 grade-of-requires : tie.Need-grade-of-requires
 grade-of-requires c κs = search needs
 
--- src/cut.rt:73:9
 front-requires : tie.Need-front-requires
 front-requires c κs = search needs
 
--- src/cut.rt:74:9
 front-requires-2 : tie.Need-front-requires-2
 front-requires-2 c κs = search needs
 
--- src/cut.rt:75:9
 front-requires-3 : tie.Need-front-requires-3
 front-requires-3 c κs = search needs
 
--- src/cut.rt:76:9
 front-requires-4 : tie.Need-front-requires-4
 front-requires-4 c κs = search needs
 
--- src/cut.rt:77:9
 front-requires-5 : tie.Need-front-requires-5
 front-requires-5 c κs = search needs
 
--- src/cut.rt:78:9
 front-requires-6 : tie.Need-front-requires-6
 front-requires-6 c κs = search needs
 
--- src/cut.rt:71:5
 verdict-requires : tie.Need-verdict-requires
 verdict-requires c κs = search needs
 
--- src/cut.rt:61:1
 returns : tie.Need-returns
 unfolding judgingInput signOnOf
 returns c = rw (c .before .before .before .before .before .before .before .grade-of .ensures, c .before .before .before .before .before .before .front .ensures, c .before .before .before .before .before .front2 .ensures, c .before .before .before .before .front3 .ensures, c .before .before .before .front4 .ensures, c .before .before .front5 .ensures, c .before .front6 .ensures, c .before .before .before .before .before .before .before .before .behind6 .ensures, c .before .before .before .before .before .before .before .before .before .behind5 .ensures, c .before .before .before .before .before .before .before .before .before .before .behind4 .ensures, c .before .before .before .before .before .before .before .before .before .before .before .behind3 .ensures, c .before .before .before .before .before .before .before .before .before .before .before .before .behind2 .ensures, c .before .before .before .before .before .before .before .before .before .before .before .before .before .behind .ensures, c .before .before .before .before .before .before .before .before .before .before .before .before .before .before .frames-of .ensures) at (c .verdict .ensures .says)

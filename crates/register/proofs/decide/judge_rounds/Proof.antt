@@ -10,39 +10,30 @@ use Rattle.register.proofs.decide.judge_rounds.Tie as tie
 shared-slice-read-wide : tie.Need-shared-slice-read-wide
 shared-slice-read-wide c = search needs
 
--- src/decide.rt:72:9
 wide-requires : tie.Need-wide-requires
 wide-requires c κs = search needs
 
--- src/decide.rt:73:9
 rounds-passed-requires : tie.Need-rounds-passed-requires
 rounds-passed-requires c κs = search needs
 
--- src/decide.rt:83:9
 returns : tie.Need-returns
 returns c = all-passed _ _ _ (c .before .rounds-passed .ensures) (c .before .before .wide .ensures .0) (c .if1 .taken)
 
--- src/decide.rt:85:22
 sub-bit-at : tie.Need-sub-bit-at
 sub-bit-at c = search needs
 
--- src/decide.rt:85:22
 part-bit-at-start : tie.Need-part-bit-at-start
 part-bit-at-start c = search needs
 
--- src/decide.rt:85:22
 part-bit-at-end : tie.Need-part-bit-at-end
 part-bit-at-end c = search needs
 
--- src/decide.rt:85:9
 bit-at-requires : tie.Need-bit-at-requires
 bit-at-requires c κs = bit-there _ _ _ (c .before .before .before .before .before .before .before .before .before .before .before .before .pre) (c .before .before .rounds-passed .ensures) (c .before .before .before .wide .ensures .0) (c .before .if1 .left)
 
--- src/decide.rt:87:17
 number-of-requires : tie.Need-number-of-requires
 number-of-requires c κs = search needs
 
--- src/decide.rt:60:1
 returns-2 : tie.Need-returns-2
 returns-2 c = round-failed _ _ _ (c .before .before .before .before .rounds-passed .ensures) (c .before .before .before .before .before .wide .ensures .0) (c .before .before .before .if1 .left) _ (c .number-of .ensures ∙ ap numberOf (c .before .bit-at .ensures ∙ bit-cut (c .before .before .before .before .before .before .before .before .before .before .before .before .before .before .args .bits .now) (c .before .before .before .before .rounds-passed .result)))
 

@@ -9,115 +9,87 @@ use Rattle.register.proofs.decide.rounds_passed.Tie as tie
 shared-slice-read-wide : tie.Need-shared-slice-read-wide
 shared-slice-read-wide c = search needs
 
--- src/decide.rt:32:9
 wide-requires : tie.Need-wide-requires
 wide-requires c κs = search needs
 
--- src/decide.rt:33:18
 shared-slice-read-wide-2 : tie.Need-shared-slice-read-wide-2
 shared-slice-read-wide-2 c = search needs
 
--- src/decide.rt:33:9
 wide-requires-2 : tie.Need-wide-requires-2
 wide-requires-2 c κs = search needs
 
--- src/decide.rt:34:23
 shared-slice-read-wide-3 : tie.Need-shared-slice-read-wide-3
 shared-slice-read-wide-3 c = search needs
 
--- src/decide.rt:34:9
 wide-requires-3 : tie.Need-wide-requires-3
 wide-requires-3 c κs = search needs
 
--- src/decide.rt:36:9
 sub-first-failing : tie.Need-sub-first-failing
 sub-first-failing c = search needs
 
--- src/decide.rt:36:9
 part-first-failing-start : tie.Need-part-first-failing-start
 part-first-failing-start c = search needs
 
--- src/decide.rt:36:9
 part-first-failing-end : tie.Need-part-first-failing-end
 part-first-failing-end c = search needs
 
--- src/decide.rt:39:9
 sub-first-failing-2 : tie.Need-sub-first-failing-2
 sub-first-failing-2 c = search needs
 
--- src/decide.rt:39:9
 part-first-failing-start-2 : tie.Need-part-first-failing-start-2
 part-first-failing-start-2 c = search needs
 
--- src/decide.rt:39:9
 part-first-failing-end-2 : tie.Need-part-first-failing-end-2
 part-first-failing-end-2 c = search needs
 
--- src/decide.rt:40:9
 sub-first-failing-3 : tie.Need-sub-first-failing-3
 sub-first-failing-3 c = search needs
 
--- src/decide.rt:40:9
 part-first-failing-start-3 : tie.Need-part-first-failing-start-3
 part-first-failing-start-3 c = search needs
 
--- src/decide.rt:40:9
 part-first-failing-end-3 : tie.Need-part-first-failing-end-3
 part-first-failing-end-3 c = search needs
 
--- src/decide.rt:41:9
 sub-first-failing-4 : tie.Need-sub-first-failing-4
 sub-first-failing-4 c = search needs
 
--- src/decide.rt:41:9
 part-first-failing-start-4 : tie.Need-part-first-failing-start-4
 part-first-failing-start-4 c = search needs
 
--- src/decide.rt:41:9
 part-first-failing-end-4 : tie.Need-part-first-failing-end-4
 part-first-failing-end-4 c = search needs
 
--- src/decide.rt:42:9
 sub-first-failing-5 : tie.Need-sub-first-failing-5
 sub-first-failing-5 c = search needs
 
--- src/decide.rt:42:9
 part-first-failing-start-5 : tie.Need-part-first-failing-start-5
 part-first-failing-start-5 c = search needs
 
--- src/decide.rt:42:9
 part-first-failing-end-5 : tie.Need-part-first-failing-end-5
 part-first-failing-end-5 c = search needs
 
--- src/decide.rt:43:9
 sub-first-failing-6 : tie.Need-sub-first-failing-6
 sub-first-failing-6 c = search needs
 
--- src/decide.rt:43:9
 part-first-failing-start-6 : tie.Need-part-first-failing-start-6
 part-first-failing-start-6 c = search needs
 
--- src/decide.rt:43:9
 part-first-failing-end-6 : tie.Need-part-first-failing-end-6
 part-first-failing-end-6 c = search needs
 
--- src/decide.rt:44:9
 sub-first-failing-7 : tie.Need-sub-first-failing-7
 sub-first-failing-7 c = search needs
 
--- src/decide.rt:44:9
 part-first-failing-start-7 : tie.Need-part-first-failing-start-7
 part-first-failing-start-7 c = search needs
 
--- src/decide.rt:44:9
 part-first-failing-end-7 : tie.Need-part-first-failing-end-7
 part-first-failing-end-7 c = search needs
 
--- src/decide.rt:35:5
 first-failing-requires : tie.Need-first-failing-requires
 first-failing-requires c κs = parts-fit _ _ _ _ (c .before .before .before .before .before .before .before .before .before .before .before .wide .ensures .0) (c .before .before .before .before .before .before .before .before .before .wide2 .ensures .0) (c .before .before .before .before .before .before .before .wide3 .ensures .0) (c .before .before .before .before .before .before .before .before .before .before .before .before .before .before .before .before .before .before .before .before .pre)
 
--- src/decide.rt:20:1
 returns : tie.Need-returns
 returns c =
     let g = c .before .before .before .before .before .before .before .before .before .before .before .before .before .before .before .before .before .before .before .before .before .args in

@@ -19,11 +19,9 @@ frames-fine c = sign-on-fits _ (frames-told _ [] (sym (c .before .before .check-
 check-frames-requires : tie.Need-check-frames-requires
 check-frames-requires c κs = search needs
 
--- src/decide.rt:106:29
 enum-known-x : tie.Need-enum-known-x
 enum-known-x c = search needs
 
--- src/decide.rt:115:9
 returns : tie.Need-returns
 unfolding judging
 returns c = record { says = stops _ (c .before .before .before .check-frames .ensures) (c .before .x .given .1) }
@@ -31,27 +29,21 @@ returns c = record { says = stops _ (c .before .before .before .check-frames .en
 enum-told : tie.Need-enum-told
 enum-told c = search needs
 
--- src/decide.rt:117:28
 shared-slice-read-wide : tie.Need-shared-slice-read-wide
 shared-slice-read-wide c = let t = frames-fine (c .before) .commitmentsThere in omega arith
 
--- src/decide.rt:117:23
 wide-requires : tie.Need-wide-requires
 wide-requires c κs = search needs
 
--- src/decide.rt:117:9
 enough-requires : tie.Need-enough-requires
 enough-requires c κs = search needs
 
--- src/decide.rt:118:9
 returns-2 : tie.Need-returns-2
 returns-2 c = record { says = too-weak _ _ _ (c .before .before .before .before .before .before .check-frames .ensures) (c .before .before .before .before .enum-told .given .1) (ap (enough _) (sym (c .before .before .wide .ensures .0)) ∙ sym (c .before .enough .ensures) ∙ not-true (c .before .enough .result) (c .if1 .taken)) }
 
--- src/decide.rt:124:5
 judge-rounds-requires : tie.Need-judge-rounds-requires
 judge-rounds-requires c κs = frames-fine (c .before .before .before .before)
 
--- src/decide.rt:94:1
 returns-3 : tie.Need-returns-3
 returns-3 c = record { says = rounds-decide _ _ _ (c .before .before .before .before .before .before .before .check-frames .ensures) (c .before .before .before .before .before .enum-told .given .1) (ap (enough _) (sym (c .before .before .before .wide .ensures .0)) ∙ sym (c .before .before .enough .ensures) ∙ not-false (c .before .before .enough .result) (c .before .if1 .left)) _ (c .judge-rounds .ensures) }
 

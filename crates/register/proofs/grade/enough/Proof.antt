@@ -6,11 +6,9 @@ use Rattle.register.proofs.grade.enough.Tie as tie
 returns : tie.Need-returns
 returns c = inspector _ _ (c .if1 .taken)
 
--- src/grade.rt:21:9
 returns-2 : tie.Need-returns-2
 returns-2 c = keeper _ _ (c .before .if1 .left) (c .if2 .taken)
 
--- src/grade.rt:14:1
 returns-3 : tie.Need-returns-3
 returns-3 c = no-grade _ _ (c .before .if1 .left) (c .if2 .left)
 
