@@ -25,6 +25,7 @@ use Rattle.rounds.proofs.Runs.{failing-found, all-pass}
 use Rattle.register.specs.declared.Verdict.{Verdict}
 use Rattle.register.specs.declared.Verdict.the-variants.{Accepted, Refused}
 use Rattle.register.specs.Verdict.{SignOn, placesOf, roundsOf, basisCheck, exchangeCheck, framesCheck, enough, systemIn, vectorIn, messagesIn, bitOf, roundPasses, roundsPassed, numberOf, roundsCheck, judging, verdictMeans, Judges}
+use Rattle.register.proofs.Orders.{in-order}
 use Rattle.register.proofs.Facts.{FramesFit, frames-told}
 use Rattle.register.proofs.Outcomes.{verdict-fixes}
 
@@ -83,8 +84,7 @@ frames-most x =
 
 -- past both the rounds decide
 past-both : (grade : ℕ) (x : SignOn) → FramesFit x → enough grade (roundsOf x) ≡ true → judging grade x ≡ roundsCheck x
-unfolding judging
-past-both grade x h s = rw (frames-fine x h, s)
+past-both grade x h s = in-order grade x ∙ rw (frames-fine x h, s)
 
 -- ---- what the rounds say
 
@@ -153,9 +153,8 @@ module _ (grade : ℕ) (x : SignOn) where
   weak = demand (enough grade (roundsOf x)) WEAK NONE 0
 
   pub accepted→ : (v : List ℕ) → judging grade x ≡ done v → (roundsOf x ∷ [] ≡ v) × Accepts grade x
-  unfolding judging
   accepted→ v e =
-      let a = first-done (framesCheck x) (first weak (roundsCheck x)) v e in
+      let a = first-done (framesCheck x) (first weak (roundsCheck x)) v (sym (in-order grade x) ∙ e) in
       let r = rounds-accepted x v (rest-done (enough grade (roundsOf x)) WEAK NONE 0 (roundsCheck x) v (a .1)) in
       let z = r .0 in (
         r .1,
@@ -173,8 +172,7 @@ module _ (grade : ℕ) (x : SignOn) where
       ∙ rw (eq-eqb (roundsPassed x) (roundsOf x) (all-pass (systemIn x) (vectorIn x) (messagesIn x) (roundsOf x) (h .pass)))
 
   pub failed→ : (bit : Bool) (b r : ℕ) → judging grade x ≡ refused (numberOf bit) b r → (OPENINGS ≡ b) × Fails grade x bit r
-  unfolding judging
-  failed→ bit b r e = step (first-refused (framesCheck x) (first weak (roundsCheck x)) (numberOf bit) b r e)
+  failed→ bit b r e = step (first-refused (framesCheck x) (first weak (roundsCheck x)) (numberOf bit) b r (sym (in-order grade x) ∙ e))
     where
       last : FramesFit x → enough grade (roundsOf x) ≡ true → roundsCheck x ≡ refused (numberOf bit) b r → (OPENINGS ≡ b) × Fails grade x bit r
       last f s q =

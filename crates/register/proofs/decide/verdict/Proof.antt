@@ -4,11 +4,10 @@ use mathlib.Core.List.{[]}
 use native.Mathlib.Omega.{arith}
 use borrow.Author.Needs.{needs}
 use borrow.Author.Tests.{not-false, not-true}
-use Rattle.refusals.proofs.Chain.{stops}
 use Rattle.refusals.specs.Told.{means}
 use Rattle.register.proofs.Facts.{frames-told, sign-on-fits}
-use Rattle.register.proofs.Orders.{rounds-decide, too-weak}
-use Rattle.register.specs.Verdict.{SignOnFits, enough, judging, signOn}
+use Rattle.register.proofs.Orders.{bad-frames, rounds-decide, too-weak}
+use Rattle.register.specs.Verdict.{SignOnFits, enough, signOn}
 use Rattle.register.proofs.decide.verdict.Statement.{statement}
 use Rattle.register.proofs.decide.verdict.Tie as tie
 
@@ -23,8 +22,7 @@ enum-known-x : tie.Need-enum-known-x
 enum-known-x c = search needs
 
 returns : tie.Need-returns
-unfolding judging
-returns c = record { says = stops _ (c .before .before .before .check-frames .ensures) (c .before .x .given .1) }
+returns c = record { says = bad-frames _ _ _ _ (c .before .before .before .check-frames .ensures) (c .before .x .given .1) }
 
 enum-told : tie.Need-enum-told
 enum-told c = search needs
