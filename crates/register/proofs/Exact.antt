@@ -108,15 +108,12 @@ module _ (x : SignOn) where
 
   -- the first round that does not pass is the one before which all pass
   found-at : (r : ℕ) → r < roundsOf x → ((k : ℕ) → k < r → roundPasses x k ≡ true) → roundPasses x r ≡ false → at ≡ r
-  found-at r l before here = step (ℕ-discrete at r)
+  found-at r l before here = by (decLt at r) (decLt r at)
     where
-      step : Dec (at ≡ r) → at ≡ r
-      step (yes e) = e
-      step (no f) = step2 (decLt at r)
-        where
-          step2 : Dec (at < r) → at ≡ r
-          step2 (yes m) = absurd (false≢true (sym (fails-here (omega arith)) ∙ before at m))
-          step2 (no m) = absurd (false≢true (sym here ∙ passed-before r (omega arith)))
+      by : Dec (at < r) → Dec (r < at) → at ≡ r
+      by (yes m) q = absurd (false≢true (sym (fails-here (omega arith)) ∙ before at m))
+      by (no m) (yes q) = absurd (false≢true (sym here ∙ passed-before r q))
+      by (no m) (no q) = omega arith
 
   rounds-accepted : (v : List ℕ) → roundsCheck x ≡ done v → (at ≡ roundsOf x) × (roundsOf x ∷ [] ≡ v)
   unfolding roundsCheck
@@ -172,10 +169,10 @@ module _ (grade : ℕ) (x : SignOn) where
       ∙ rw (eq-eqb (roundsPassed x) (roundsOf x) (all-pass (systemIn x) (vectorIn x) (messagesIn x) (roundsOf x) (h .pass)))
 
   pub failed→ : (bit : Bool) (b r : ℕ) → judging grade x ≡ refused (numberOf bit) b r → (OPENINGS ≡ b) × Fails grade x bit r
-  failed→ bit b r e = step (first-refused (framesCheck x) (first weak (roundsCheck x)) (numberOf bit) b r (sym (in-order grade x) ∙ e))
+  failed→ bit b r e = past-frames (first-refused (framesCheck x) (first weak (roundsCheck x)) (numberOf bit) b r (sym (in-order grade x) ∙ e))
     where
-      last : FramesFit x → enough grade (roundsOf x) ≡ true → roundsCheck x ≡ refused (numberOf bit) b r → (OPENINGS ≡ b) × Fails grade x bit r
-      last f s q =
+      past-all : FramesFit x → enough grade (roundsOf x) ≡ true → roundsCheck x ≡ refused (numberOf bit) b r → (OPENINGS ≡ b) × Fails grade x bit r
+      past-all f s q =
           let p = rounds-refused x (numberOf bit) b r q in
           let tells = number-tells (bitOf x (roundsPassed x)) bit (p .1) in (
             p .2,
@@ -190,14 +187,14 @@ module _ (grade : ℕ) (x : SignOn) where
                 }),
           )
 
-      step2 : FramesFit x → (weak ≡ refused (numberOf bit) b r) ⊎ (Passed weak × (roundsCheck x ≡ refused (numberOf bit) b r)) → (OPENINGS ≡ b) × Fails grade x bit r
-      step2 f (inl q) = let m = demand-most WEAK (enough grade (roundsOf x)) WEAK NONE 0 (omega arith) (numberOf bit) b r q in let l = number-late bit in absurd (omega arith)
-      step2 f (inr (p, q)) = last f (demand-done (enough grade (roundsOf x)) WEAK NONE 0 (p .0) (p .1)) q
+      past-grade : FramesFit x → (weak ≡ refused (numberOf bit) b r) ⊎ (Passed weak × (roundsCheck x ≡ refused (numberOf bit) b r)) → (OPENINGS ≡ b) × Fails grade x bit r
+      past-grade f (inl q) = let m = demand-most WEAK (enough grade (roundsOf x)) WEAK NONE 0 (omega arith) (numberOf bit) b r q in let l = number-late bit in absurd (omega arith)
+      past-grade f (inr (p, q)) = past-all f (demand-done (enough grade (roundsOf x)) WEAK NONE 0 (p .0) (p .1)) q
 
-      step : (framesCheck x ≡ refused (numberOf bit) b r) ⊎ (Passed (framesCheck x) × (first weak (roundsCheck x) ≡ refused (numberOf bit) b r))
+      past-frames : (framesCheck x ≡ refused (numberOf bit) b r) ⊎ (Passed (framesCheck x) × (first weak (roundsCheck x) ≡ refused (numberOf bit) b r))
           → (OPENINGS ≡ b) × Fails grade x bit r
-      step (inl q) = let m = frames-most x (numberOf bit) b r q in let l = number-late bit in absurd (omega arith)
-      step (inr (p, q)) = step2 (frames-told x (p .0) (p .1)) (first-refused weak (roundsCheck x) (numberOf bit) b r q)
+      past-frames (inl q) = let m = frames-most x (numberOf bit) b r q in let l = number-late bit in absurd (omega arith)
+      past-frames (inr (p, q)) = past-grade (frames-told x (p .0) (p .1)) (first-refused weak (roundsCheck x) (numberOf bit) b r q)
 
   pub failed← : (bit : Bool) (r : ℕ) → Fails grade x bit r → judging grade x ≡ refused (numberOf bit) OPENINGS r
   unfolding roundsCheck
