@@ -1,11 +1,13 @@
 -- Laws of vectors: R + c·V and W - c·V, entry by entry, under a permutation, and one undoing the other.
 use mathlib.Core.Path.{_≡_, refl, sym, ap, _∙_}
-use mathlib.Core.List.{List, [], _∷_, zipWith}
+use mathlib.Core.List.{List, [], _∷_, _++_, zipWith}
 use Prim.Native.Nat.{ℕ, zero, suc, _+_, _-_, _*_, _%_, _<_, _≤_}
 use native.Mathlib.Nat.{not-suc-le-zero, le-of-suc-le-suc, mod-mod, mod-lt, mod-eq-of-lt, mod-self, zero-mod, zero-mul, add-mul}
+use native.Mathlib.Decide.{decLt}
 use native.Mathlib.Omega.{arith}
-use lib.ListN.{length, getD}
-use Rattle.algebra.specs.Lists.{tab}
+use lib.ListN.{length, getD, length-append, List·getD-append}
+use lib.Seq.{drop-at, getD-drop}
+use Rattle.algebra.specs.Lists.{tab, joined}
 use Rattle.algebra.specs.Residues.{Residues, negative, plusTimes, addScaled, subScaled}
 use Rattle.algebra.specs.Permutations.{IsPerm, permute}
 use Rattle.algebra.proofs.Lists.{same-list, tab-of}
@@ -123,3 +125,19 @@ module _ (p c : ℕ) (x v : List ℕ) (small : c ≤ p) (e : length x ≡ length
     where
       turn : (n : ℕ) → (n + c) % p ≡ (c + n) % p
       turn n = ap (λ (z : ℕ). z % p) (omega arith)
+
+-- ---- vectors one after the other
+
+pub residues-joined : (p n : ℕ) (f : ℕ → List ℕ) → ((k : ℕ) → k < n → Residues p (f k)) → Residues p (joined n f)
+unfolding joined
+residues-joined p zero f h j l = absurd (not-suc-le-zero l)
+residues-joined p (suc n) f h j l = step (decLt j (length (joined n f))) (residues-joined p n f (λ k m. h k (omega arith)))
+  where
+    step : Dec (j < length (joined n f)) → Residues p (joined n f) → getD (joined n f ++ f n) j 0 < p
+    step (yes m) ih = rw (List·getD-append (joined n f) (f n) 0 j m) (ih j m)
+    step (no m) ih =
+        let a = length (joined n f) in
+        let e : a + (j - a) ≡ j = omega arith in
+        let q : getD (joined n f ++ f n) j 0 ≡ getD (f n) (j - a) 0 =
+        ap (λ (z : ℕ). getD (joined n f ++ f n) z 0) (sym e) ∙ sym (getD-drop a (joined n f ++ f n) (j - a) 0) ∙ ap (λ (z : List ℕ). getD z (j - a) 0) (drop-at (joined n f) (f n) a refl) in
+        rw q (h n (omega arith) (j - a) (omega (arith, length-append (joined n f) (f n))))

@@ -2,3 +2,6 @@
 pub mod Own
 pub mod Parts
 pub mod Opening
+pub mod Outcomes
+pub mod Resting
+pub mod ReadBack

@@ -1,6 +1,6 @@
 -- Laws of the tests of STAGE, an answer each, as the code finds them.
-use mathlib.Core.Path.{_≡_, sym}
-use mathlib.Core.Bool.{Bool, true, false}
+use mathlib.Core.Path.{_≡_, sym, ap, _∙_}
+use mathlib.Core.Bool.{Bool, true, false, false≢true}
 use mathlib.Core.List.{List}
 use Prim.Native.Nat.{ℕ, _+_, _≤_, _<_}
 use native.Mathlib.Nat.{not-suc-le-zero}
@@ -15,7 +15,7 @@ use Rattle.algebra.proofs.Lists.{&&-left, &&-right, allBelow-at, allBelow-none,
 use Rattle.frames.specs.Kinds.{within, alone}
 use Rattle.frames.proofs.Facts.{within-told}
 use Rattle.card_checks.specs.declared.session.Session.{Session}
-use Rattle.card_checks.specs.Stages.{IDLE, CLOSED}
+use Rattle.card_checks.specs.Stages.{IDLE, COMMITTED, ANSWERED, CLOSED}
 use Rattle.card_checks.specs.Asking.{atRest, recordFits, keptFits, keptFit}
 
 -- ---- begin's stages
@@ -27,6 +27,11 @@ idle-rests stage e = rw (eq-eqb stage IDLE e)
 pub closed-decides : (stage : ℕ) → (stage ≡ IDLE → ⊥) → (b : Bool) → b ≡ eqb stage CLOSED → b ≡ atRest stage
 unfolding atRest
 closed-decides stage f b e = rw (ne-eqb stage IDLE f) e
+
+-- neither committed nor answered
+pub rests-apart : (stage : ℕ) → atRest stage ≡ true → (stage ≡ COMMITTED → ⊥) × (stage ≡ ANSWERED → ⊥)
+unfolding atRest
+rests-apart stage e = (λ q. false≢true (ap atRest (sym q) ∙ e), λ q. false≢true (ap atRest (sym q) ∙ e))
 
 -- ---- the record
 

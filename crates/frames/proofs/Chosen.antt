@@ -91,12 +91,15 @@ unfolding stretch
 zeros-stretch size k l z = zeros-take size (drop (k * size) l) (zeros-drop (k * size) l z)
 
 -- they have the same value at two places
+no-perm : (n : ℕ) (l : List ℕ) → 2 ≤ n → Zeros l → IsPerm n l → ⊥
+no-perm n l h z p = let q : _≡_ {A = ℕ} 0 1 = apart n l p 0 1 (omega arith) (omega arith) (z 0 ∙ sym (z 1)) in absurd (omega arith)
+
 zeros-no-perm : (n : ℕ) (l : List ℕ) → 2 ≤ n → Zeros l → isPerm n l ≡ false
 zeros-no-perm n l h z = step (isPerm n l) refl
   where
     step : (b : Bool) → isPerm n l ≡ b → b ≡ false
     step false e = refl
-    step true e = let q : _≡_ {A = ℕ} 0 1 = apart n l (isPerm→ n l e) 0 1 (omega arith) (omega arith) (z 0 ∙ sym (z 1)) in absurd (omega arith)
+    step true e = absurd (no-perm n l h z (isPerm→ n l e))
 
 module _ (n : ℕ) (h : 2 ≤ n) where
   zero-permutation : (b at : ℕ) (l : List ℕ) → Zeros l → permutations b n at 1 l ≡ refused PERM b at
@@ -119,3 +122,9 @@ module _ (n : ℕ) (h : 2 ≤ n) where
       let q : choiceAt n choices 0 ≡ refused PERM CHOICES n =
       zero-choice (0 * choiceSize n) (choiceOf choices n 0) (zeros-stretch (choiceSize n) 0 choices z) ∙ ap (refused PERM CHOICES) (omega (arith, zero-mul (choiceSize n))) in
       rw (eq-eqb (length choices) (N * choiceSize n) e) (sym (below-stops (choiceAt n choices) 0 (below-none _) N some q))
+
+  pub zeros-not-chosen : (choices : List ℕ) (k : ℕ) → Zeros choices → IsPerm n (permutationOf n (choiceOf choices n k)) → ⊥
+  unfolding permutationOf
+  zeros-not-chosen choices k z p =
+      let c = choiceOf choices n k in
+      no-perm n (take n (drop n c)) h (zeros-take n (drop n c) (zeros-drop n c (zeros-stretch (choiceSize n) k choices z))) p

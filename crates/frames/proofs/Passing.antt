@@ -1,5 +1,5 @@
 -- What passes the checks: residues, permutations, and choices made of them.
-use mathlib.Core.Path.{_≡_, sym, ap, ap₂, _∙_}
+use mathlib.Core.Path.{_≡_, sym, ap, ap₂, _∙_, subst}
 use mathlib.Core.Bool.{Bool}
 use mathlib.Core.List.{List, _++_}
 use Prim.Native.Nat.{ℕ, _+_, _-_, _*_, _<_}
@@ -14,7 +14,7 @@ use Rattle.refusals.specs.Told.{fine, first, demand}
 use Rattle.refusals.proofs.Chain.{below-fine}
 use Rattle.algebra.specs.Lists.{stretch}
 use Rattle.algebra.specs.Residues.{modulus, Residues}
-use Rattle.algebra.specs.Permutations.{isPerm, IsPerm}
+use Rattle.algebra.specs.Permutations.{IsPerm}
 use Rattle.algebra.specs.Matrices.{SystemFits}
 use Rattle.algebra.proofs.Lists.{from-stretch}
 use Rattle.algebra.proofs.Permutations.{isPerm←}
@@ -35,14 +35,17 @@ whole n l e =
     sym (from-stretch n 0 0 l (sym (zero-mul n)))
     ∙ take-all (0 + n - 0) l (omega arith)
 
-pub permutation-passes : (b n at : ℕ) (l : List ℕ) → IsPerm n l → permutations b n at 1 l ≡ fine
+pub permutations-pass : (b n at count : ℕ) (l : List ℕ) → ((k : ℕ) → k < count → IsPerm n (stretch n k l)) → permutations b n at count l ≡ fine
 unfolding permutations
+permutations-pass b n at count l h =
+    below-fine count (permutationAt b n at l) (λ k i. ap (λ (t : Bool). demand t PERM b (at + k * n)) (isPerm← n (stretch n k l) (h k i)))
+
+pub permutation-passes : (b n at : ℕ) (l : List ℕ) → IsPerm n l → permutations b n at 1 l ≡ fine
 permutation-passes b n at l h =
-    below-fine 1 (permutationAt b n at l)
+    permutations-pass b n at 1 l
     (λ k i.
     let z : k ≡ 0 = omega arith in
-    ap (λ (t : Bool). demand t PERM b (at + k * n))
-    (ap (λ (j : ℕ). isPerm n (stretch n j l)) z ∙ ap (isPerm n) (whole n l (h .len)) ∙ isPerm← n l h))
+    subst (IsPerm n) (sym (ap (λ (j : ℕ). stretch n j l) z ∙ whole n l (h .len))) h)
 
 -- ---- the choices
 

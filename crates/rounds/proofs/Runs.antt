@@ -9,10 +9,11 @@ use native.Mathlib.Omega.{arith}
 use lib.ListN.{length, getD, take, length-append}
 use lib.Seq.{take-at, drop-at, take-all}
 use Rattle.algebra.specs.Lists.{stretch, joined, firstFrom}
+use Rattle.algebra.specs.Residues.{Residues}
 use Rattle.algebra.specs.Permutations.{IsPerm, permute, compose}
 use Rattle.algebra.proofs.Lists.{stretch-joined, Found, found}
 use Rattle.algebra.proofs.Permutations.{compose-perm}
-use Rattle.algebra.proofs.Vectors.{length-addScaled}
+use Rattle.algebra.proofs.Vectors.{length-addScaled, residues-addScaled}
 use Rattle.sha256.specs.Standard.{digestOf}
 use Rattle.sha256.proofs.Digest.{digest-length}
 use Rattle.frames.specs.PackedBits.{bitAt}
@@ -35,6 +36,12 @@ answer-length p n v π c x key h =
     let e = length-under n (x .vector) (x .permutation) h in
     length-addScaled p (permute (x .vector) (x .permutation)) c (permute v (compose π (x .permutation)))
     (e ∙ sym (length-under n v (compose π (x .permutation)) (compose-perm n π (x .permutation) key h))) ∙ e
+
+pub answer-residues : (p n : ℕ) (v π : List ℕ) (c : ℕ) (x : Pair) → 0 < p → IsPerm n π → IsPerm n (x .permutation) → Residues p (firstAnswer p v π c x)
+unfolding firstAnswer
+answer-residues p n v π c x some key h =
+    residues-addScaled p (permute (x .vector) (x .permutation)) c (permute v (compose π (x .permutation)))
+    (length-under n (x .vector) (x .permutation) h ∙ sym (length-under n v (compose π (x .permutation)) (compose-perm n π (x .permutation) key h))) some
 
 pub opening-length : (n : ℕ) (π : List ℕ) (bit : Bool) (σ : List ℕ) → IsPerm n σ → length (opening π bit σ) ≡ n
 unfolding opening
