@@ -5,3 +5,4 @@ pub mod Opening
 pub mod Outcomes
 pub mod Resting
 pub mod ReadBack
+pub mod Written

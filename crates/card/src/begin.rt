@@ -76,6 +76,7 @@ pub fn begin_step(
         choices,
         out,
     );
+    let challenges = [0u8; 64];
     Step {
         told: Written::Wrote(5 + 64 * rounds),
         next: Session {
@@ -83,7 +84,7 @@ pub fn begin_step(
             n: n,
             m: m,
             rounds: rounds as u8,
-            challenges: [0u8; 64],
+            challenges: challenges,
         },
     }
 }

@@ -32,6 +32,7 @@ use Rattle.card_checks.specs.Stages.{COMMITTED, ANSWERED}
 use Rattle.card_checks.specs.Keys.{Keys, placesOf, rowsOf, publicOf, secretOf, faultOf, keysCheck, validCheck}
 use Rattle.card_checks.specs.Lent.{KeysFit, matrixOf, LentFits}
 use Rattle.card_checks.specs.Asking.{staged, atRest, recordFits, keptFit, commitmentsSize, answersSize, openingsSize, restCheck, beginCheck, answerCheck, openCheck}
+use Rattle.card_checks.proofs.Orders.{rest-in-order, open-in-order}
 use Rattle.card_checks.proofs.Records.{record-told, kept-told}
 
 -- ---- the frames
@@ -95,12 +96,11 @@ module _ (k : Keys) (n m : ℕ) (p : n ≡ placesOf k) (q : m ≡ rowsOf k) wher
 
 pub rest-told : (k : Keys) (N : ℕ) (choices : List ℕ) (need room : ℕ) (v : List ℕ) → KeysFit k → 1 ≤ N → N ≤ 64 → restCheck k N choices need room ≡ done v
     → LentFits k N choices × (need ≤ room)
-unfolding restCheck
 rest-told k N choices need room v f some most e =
     let n = placesOf k in
     let r3 : Told = demand (leb need room) ROOM OUTPUT need in
     let r2 : Told = first (validCheck k) r3 in
-    let a = first-done (choicesCheck n N choices) r2 v e in
+    let a = first-done (choicesCheck n N choices) r2 v (sym (rest-in-order k N choices need room) ∙ e) in
     let b = first-done (validCheck k) r3 v (a .1) in
     let c = choices-told n N choices (a .0 .0) (a .0 .1) in (
       record {
@@ -183,7 +183,6 @@ pub record OpenFits (s : Session) (k : Keys) (message choices : List ℕ) (room 
 
 pub open-told : (s : Session) (k : Keys) (message choices : List ℕ) (room : ℕ) (v : List ℕ) → openCheck s k message choices room ≡ done v
     → OpenFits s k message choices room
-unfolding openCheck
 open-told s k message choices room v e =
     let n = placesOf k in
     let N = s .rounds in
@@ -195,13 +194,14 @@ open-told s k message choices room v e =
     let r4 : Told = first (staged t4) r5 in
     let r3 : Told = first (staged t3) r4 in
     let r2 : Told = first (keysCheck k) r3 in
-    let f = first-done (keysCheck k) r3 v (rest-done t1 STAGE NONE 0 r2 v e) in
+    let q : first (staged t1) r2 ≡ done v = sym (open-in-order s k message choices room) ∙ e in
+    let f = first-done (keysCheck k) r3 v (rest-done t1 STAGE NONE 0 r2 v q) in
     let h = record-told s n (rowsOf k) (test-holds t3 STAGE NONE 0 r4 v (f .1)) in
     let e4 = rest-done t3 STAGE NONE 0 r4 v (f .1) in
     let m = first-done (reading Bits (exactly n N) message) r6 v (rest-done t4 STAGE NONE 0 r5 v e4) in
     let t = rest-told k N choices (openingsSize n N) room v (keys-told k (f .0 .0) (f .0 .1)) (h .2) (h .3) (m .1) in
     record {
-      stage = eqb-true _ _ (test-holds t1 STAGE NONE 0 r2 v e);
+      stage = eqb-true _ _ (test-holds t1 STAGE NONE 0 r2 v q);
       places = h .0;
       rows = h .1;
       kept = kept-told N (s .challenges) (test-holds t4 STAGE NONE 0 r5 v e4);

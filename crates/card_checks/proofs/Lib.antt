@@ -3,3 +3,4 @@ pub mod Facts
 pub mod Orders
 pub mod Records
 pub mod Outcomes
+pub mod Examples

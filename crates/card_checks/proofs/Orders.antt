@@ -1,25 +1,43 @@
 -- Laws of the orders of refusals, an answer each, as the code finds them.
-use mathlib.Core.Path.{_≡_, refl}
+use mathlib.Core.Path.{_≡_, refl, _∙_}
 use mathlib.Core.Bool.{Bool, true, false}
 use mathlib.Core.List.{List}
 use Prim.Native.Nat.{ℕ, _≤_, _<_}
 use borrow.Author.Tests.{eq-eqb, ne-eqb, lt-leb, le-leb}
-use lib.Dec.{leb}
+use lib.Dec.{eqb, leb}
 use Rattle.refusals.specs.declared.Refusal.{Refusal}
 use Rattle.refusals.specs.Number.{KEY, ROOM, STAGE}
 use Rattle.refusals.specs.Buffer.{NONE, SECRET, OUTPUT}
 use Rattle.refusals.specs.Told.{Told, refused, fine, told, first, demand}
-use Rattle.frames.specs.declared.kind.Kind.the-variants.{System, Public, Secret}
+use Rattle.frames.specs.declared.kind.Kind.the-variants.{System, Public, Secret, Bits}
 use Rattle.frames.specs.declared.read.Read.{Read}
 use Rattle.frames.specs.declared.read.Read.the-variants.{Frame, Refused as NotRead}
-use Rattle.frames.specs.Kinds.{within, alone, ofPlaces}
-use Rattle.frames.specs.Reading.{Reads}
+use Rattle.frames.specs.Kinds.{within, alone, ofPlaces, exactly}
+use Rattle.frames.specs.Reading.{reading, Reads}
 use Rattle.frames.specs.Choosing.{choicesCheck}
 use Rattle.frames.proofs.Orders.{frame-goes-on, frame-stops}
 use Rattle.card_checks.specs.declared.session.Session.{Session}
 use Rattle.card_checks.specs.Stages.{COMMITTED, ANSWERED}
 use Rattle.card_checks.specs.Keys.{Keys, placesOf, rowsOf, faultOf, keysCheck, validCheck}
-use Rattle.card_checks.specs.Asking.{atRest, restCheck, beginCheck, answerCheck, openCheck}
+use Rattle.card_checks.specs.Asking.{staged, atRest, recordFits, keptFit, commitmentsSize, openingsSize, restCheck, beginCheck, answerCheck, openCheck}
+
+-- ---- document 01's order: the choices, KEY, ROOM; and at open the rest of STAGE, the message
+
+pub rest-in-order : (k : Keys) (N : ℕ) (choices : List ℕ) (need room : ℕ)
+    → restCheck k N choices need room ≡ first (choicesCheck (placesOf k) N choices) (first (validCheck k) (demand (leb need room) ROOM OUTPUT need))
+unfolding restCheck
+rest-in-order k N choices need room = refl
+
+pub open-in-order : (s : Session) (k : Keys) (message choices : List ℕ) (room : ℕ)
+    → openCheck s k message choices room
+    ≡ first (staged (eqb (s .stage) ANSWERED))
+    (first (keysCheck k)
+    (first (staged (recordFits s (placesOf k) (rowsOf k)))
+    (first (staged (keptFit (s .rounds) (s .challenges)))
+    (first (reading Bits (exactly (placesOf k) (s .rounds)) message)
+    (restCheck k (s .rounds) choices (openingsSize (placesOf k) (s .rounds)) room)))))
+unfolding openCheck
+open-in-order s k message choices room = refl
 
 -- ---- links of a chain that are tests
 
@@ -76,12 +94,11 @@ unfolding answerCheck
 no-answer-at s k message choices room f = rw (ne-eqb (s .stage) COMMITTED f)
 
 pub no-open-at : (s : Session) (k : Keys) (message choices : List ℕ) (room : ℕ) → (s .stage ≡ ANSWERED → ⊥) → openCheck s k message choices room ≡ refused STAGE NONE 0
-unfolding openCheck
-no-open-at s k message choices room f = rw (ne-eqb (s .stage) ANSWERED f)
+no-open-at s k message choices room f = open-in-order s k message choices room ∙ rw (ne-eqb (s .stage) ANSWERED f)
 
 -- ---- begin over choices that are refused, once all before them has passed
 
 pub choices-stop : (s : Session) (N : ℕ) (k : Keys) (choices : List ℕ) (room : ℕ) → atRest (s .stage) ≡ true → within (alone .rounds) N ≡ true → keysCheck k ≡ fine
     → {x y z : ℕ} → choicesCheck (placesOf k) N choices ≡ refused x y z → beginCheck s N k choices room ≡ refused x y z
-unfolding beginCheck restCheck
-choices-stop s N k choices room a b c e = rw (a, b, c, e)
+unfolding beginCheck
+choices-stop s N k choices room a b c e = rw (a, b, c, rest-in-order k N choices (commitmentsSize N) room, e)

@@ -26,11 +26,9 @@ past c = answer-told _ _ _ _ _ [] (sym (c .before .before .check-answer .ensures
 check-answer-requires : tie.Need-check-answer-requires
 check-answer-requires c κs = search needs
 
--- src/answer.rt:70:29
 enum-known-x : tie.Need-enum-known-x
 enum-known-x c = search needs
 
--- src/answer.rt:71:9
 returns : tie.Need-returns
 unfolding answerTold
 returns c = record { says = stops _ (c .before .before .before .check-answer .ensures) (c .before .x .given .1); moves = refl; writes = refl }
@@ -38,62 +36,48 @@ returns c = record { says = stops _ (c .before .before .before .check-answer .en
 enum-told : tie.Need-enum-told
 enum-told c = search needs
 
--- src/answer.rt:76:18
 shared-slice-read-wide : tie.Need-shared-slice-read-wide
 shared-slice-read-wide c = let t = past (c .before) .lent .keys .systemThere in omega arith
 
--- src/answer.rt:76:9
 wide-requires : tie.Need-wide-requires
 wide-requires c κs = search needs
 
--- src/answer.rt:77:9
 wide-requires-2 : tie.Need-wide-requires-2
 wide-requires-2 c κs = search needs
 
--- src/answer.rt:79:9
 sub-put-answers : tie.Need-sub-put-answers
 sub-put-answers c = let t = past (c .before .before .before) .lent .keys .publicThere in omega arith
 
--- src/answer.rt:79:9
 part-put-answers-start : tie.Need-part-put-answers-start
 part-put-answers-start c = let t = past (c .before .before .before) .lent .keys .publicThere in omega arith
 
--- src/answer.rt:79:9
 part-put-answers-end : tie.Need-part-put-answers-end
 part-put-answers-end c = search needs
 
--- src/answer.rt:80:9
 sub-put-answers-2 : tie.Need-sub-put-answers-2
 sub-put-answers-2 c = let t = past (c .before .before .before .before) .lent .keys .secretThere in omega arith
 
--- src/answer.rt:80:9
 part-put-answers-start-2 : tie.Need-part-put-answers-start-2
 part-put-answers-start-2 c = let t = past (c .before .before .before .before) .lent .keys .secretThere in omega arith
 
--- src/answer.rt:80:9
 part-put-answers-end-2 : tie.Need-part-put-answers-end-2
 part-put-answers-end-2 c = search needs
 
--- src/answer.rt:83:9
 sub-put-answers-3 : tie.Need-sub-put-answers-3
 sub-put-answers-3 c = let t = past (c .before .before .before .before .before) .sent .form .there in omega arith
 
--- src/answer.rt:83:9
 part-put-answers-start-3 : tie.Need-part-put-answers-start-3
 part-put-answers-start-3 c = let t = past (c .before .before .before .before .before) .sent .form .there in omega arith
 
--- src/answer.rt:83:9
 part-put-answers-end-3 : tie.Need-part-put-answers-end-3
 part-put-answers-end-3 c = search needs
 
--- src/answer.rt:78:5
 put-answers-requires : tie.Need-put-answers-requires
 put-answers-requires c κs =
     let g = c .before .before .before .before .before .before .before .before .before .before .before .before .before .before .before .before .args in let h = past (c .before .before .before .before .before .before .before) in let k = keys (g .system .now) (g .public .now) (g .secret .now) in
     let e = challenges-sent _ _ (g .message .now) (h .sent) in
     rw (c .before .before .before .before .before .wide .ensures .0, c .before .before .before .before .wide2 .ensures .0) (card-parts k _ _ (h .lent) _ _ refl refl, h .lent .keys .system .most, h .lent .most, omega arith, h .enough)
 
--- src/answer.rt:88:34
 mul-t12 : tie.Need-mul-t12
 mul-t12 c =
     let h = past (c .before .before .before .before .before .before .before .before .before .before) .lent in
@@ -102,7 +86,6 @@ mul-t12 c =
     let s = size-small Answers _ _ a b in
     omega arith
 
--- src/answer.rt:88:30
 add-t25 : tie.Need-add-t25
 add-t25 c =
     let h = past (c .before .before .before .before .before .before .before .before .before .before) .lent in
@@ -111,27 +94,21 @@ add-t25 c =
     let s = size-small Answers _ _ a b in
     omega arith
 
--- src/answer.rt:89:40
 sub-with-challenges : tie.Need-sub-with-challenges
 sub-with-challenges c = let t = past (c .before .before .before .before .before .before .before .before .before .before) .sent .form .there in omega arith
 
--- src/answer.rt:89:40
 part-with-challenges-start : tie.Need-part-with-challenges-start
 part-with-challenges-start c = let t = past (c .before .before .before .before .before .before .before .before .before .before) .sent .form .there in omega arith
 
--- src/answer.rt:89:40
 part-with-challenges-end : tie.Need-part-with-challenges-end
 part-with-challenges-end c = search needs
 
--- src/answer.rt:89:15
 with-challenges-requires : tie.Need-with-challenges-requires
 with-challenges-requires c κs = let g = c .before .before .before .before .before .before .before .before .before .before .before .before .before .before .before .before .before .before .before .before .args in let h = past (c .before .before .before .before .before .before .before .before .before .before .before) in let e = challenges-sent _ _ (g .message .now) (h .sent) in let m = h .lent .most in omega arith
 
--- src/answer.rt:59:1
 same-length : tie.Need-same-length
 same-length c = search needs
 
--- src/answer.rt:59:1
 returns-2 : tie.Need-returns-2
 unfolding answerTold
 returns-2 c =

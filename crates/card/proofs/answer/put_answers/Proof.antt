@@ -21,31 +21,24 @@ use Rattle.card.proofs.answer.put_answers.Tie as tie
 mul-put-heading : tie.Need-mul-put-heading
 mul-put-heading c = let h = c .before .before .before .before .before .pre in let s = size-small Answers _ _ (h .1) (h .2) in omega arith
 
--- src/answer.rt:38:5
 put-heading-requires : tie.Need-put-heading-requires
 put-heading-requires c κs = let h = c .before .before .before .before .before .before .pre in let s = size-small Answers _ _ (h .1) (h .2) in (omega arith, omega arith, omega arith, omega arith)
 
--- src/answer.rt:39:55
 sub-answer-all : tie.Need-sub-answer-all
 sub-answer-all c = search needs
 
--- src/answer.rt:39:55
 part-answer-all-start : tie.Need-part-answer-all-start
 part-answer-all-start c = search needs
 
--- src/answer.rt:39:55
 part-answer-all-end : tie.Need-part-answer-all-end
 part-answer-all-end c = search needs
 
--- src/answer.rt:39:5
 answer-all-requires : tie.Need-answer-all-requires
 answer-all-requires c κs = search needs
 
--- src/answer.rt:26:1
 same-length : tie.Need-same-length
 same-length c = search needs
 
--- src/answer.rt:26:1
 returns : tie.Need-returns
 returns c =
     let g = c .before .before .before .before .before .before .before .before .before .before .before .before .before .args in let f = answerAt modulus (g .n) (g .v .now) (g .pi .now) (g .challenges .now) (g .choices .now) in

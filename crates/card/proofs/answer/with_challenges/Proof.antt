@@ -11,7 +11,6 @@ use Rattle.card.proofs.answer.with_challenges.Tie as tie
 keep-requires : tie.Need-keep-requires
 keep-requires c κs = search needs
 
--- src/answer.rt:53:1
 returns : tie.Need-returns
 unfolding answered
 returns c = ap (λ (l : List ℕ). record { stage = ANSWERED; n = c .before .before .before .args .session .n; m = c .before .before .before .args .session .m; rounds = c .before .before .before .args .session .rounds; challenges = l }) (c .keep .ensures)

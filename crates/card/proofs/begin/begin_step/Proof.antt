@@ -24,11 +24,9 @@ past c = begin-told _ _ _ _ _ [] (sym (c .before .before .check-begin .ensures) 
 check-begin-requires : tie.Need-check-begin-requires
 check-begin-requires c κs = search needs
 
--- src/begin.rt:54:29
 enum-known-x : tie.Need-enum-known-x
 enum-known-x c = search needs
 
--- src/begin.rt:55:9
 returns : tie.Need-returns
 unfolding beginTold
 returns c = record { says = stops _ (c .before .before .before .check-begin .ensures) (c .before .x .given .1); moves = refl; writes = refl }
@@ -36,69 +34,53 @@ returns c = record { says = stops _ (c .before .before .before .check-begin .ens
 enum-told : tie.Need-enum-told
 enum-told c = search needs
 
--- src/begin.rt:60:13
 shared-slice-read-n : tie.Need-shared-slice-read-n
 shared-slice-read-n c = let t = past (c .before) .lent .keys .systemThere in omega arith
 
--- src/begin.rt:61:13
 shared-slice-read-m : tie.Need-shared-slice-read-m
 shared-slice-read-m c = let t = past (c .before .before) .lent .keys .systemThere in omega arith
 
--- src/begin.rt:63:9
 sub-put-commitments : tie.Need-sub-put-commitments
 sub-put-commitments c = let t = past (c .before .before) .lent .keys .systemThere in omega arith
 
--- src/begin.rt:63:9
 part-put-commitments-start : tie.Need-part-put-commitments-start
 part-put-commitments-start c = let t = past (c .before .before) .lent .keys .systemThere in omega arith
 
--- src/begin.rt:63:9
 part-put-commitments-end : tie.Need-part-put-commitments-end
 part-put-commitments-end c = search needs
 
--- src/begin.rt:64:9
 wide-requires : tie.Need-wide-requires
 wide-requires c κs = search needs
 
--- src/begin.rt:65:9
 wide-requires-2 : tie.Need-wide-requires-2
 wide-requires-2 c κs = search needs
 
--- src/begin.rt:66:9
 sub-put-commitments-2 : tie.Need-sub-put-commitments-2
 sub-put-commitments-2 c = let t = past (c .before .before .before .before .before) .lent .keys .secretThere in omega arith
 
--- src/begin.rt:66:9
 part-put-commitments-start-2 : tie.Need-part-put-commitments-start-2
 part-put-commitments-start-2 c = let t = past (c .before .before .before .before .before) .lent .keys .secretThere in omega arith
 
--- src/begin.rt:66:9
 part-put-commitments-end-2 : tie.Need-part-put-commitments-end-2
 part-put-commitments-end-2 c = search needs
 
--- src/begin.rt:62:5
 put-commitments-requires : tie.Need-put-commitments-requires
 put-commitments-requires c κs =
     let g = c .before .before .before .before .before .before .before .before .before .before .before .before .before .before .before .args in let h = past (c .before .before .before .before .before .before .before) in let k = keys (g .system .now) (g .public .now) (g .secret .now) in
     (system-part k _ _ (h .lent) _ _ (c .before .before .before .wide .ensures .0) (c .before .before .wide2 .ensures .0), key-parts k _ _ (h .lent) _ _ (c .before .before .before .wide .ensures .0) (c .before .before .wide2 .ensures .0), h .lent .most, h .enough)
 
--- src/begin.rt:72:34
-mul-t12 : tie.Need-mul-t12
-mul-t12 c = let t = past (c .before .before .before .before .before .before .before .before .before .before) .lent .most in omega arith
+mul-t13 : tie.Need-mul-t13
+mul-t13 c = let t = past (c .before .before .before .before .before .before .before .before .before .before) .lent .most in omega arith
 
--- src/begin.rt:72:30
-add-t24 : tie.Need-add-t24
-add-t24 c = let t = past (c .before .before .before .before .before .before .before .before .before .before) .lent .most in omega arith
+add-t25 : tie.Need-add-t25
+add-t25 c = let t = past (c .before .before .before .before .before .before .before .before .before .before) .lent .most in omega arith
 
--- src/begin.rt:77:21
-cast-t15 : tie.Need-cast-t15
-cast-t15 c = let t = past (c .before .before .before .before .before .before .before .before .before .before) .lent .most in omega arith
+cast-t16 : tie.Need-cast-t16
+cast-t16 c = let t = past (c .before .before .before .before .before .before .before .before .before .before) .lent .most in omega arith
 
--- src/begin.rt:43:1
 same-length : tie.Need-same-length
 same-length c = search needs
 
--- src/begin.rt:43:1
 returns-2 : tie.Need-returns-2
 unfolding beginTold begun
 returns-2 c =
@@ -128,8 +110,8 @@ begin-step-spec =
     part-put-commitments-start-2
     part-put-commitments-end-2
     put-commitments-requires
-    mul-t12
-    add-t24
-    cast-t15
+    mul-t13
+    add-t25
+    cast-t16
     same-length
     returns-2)

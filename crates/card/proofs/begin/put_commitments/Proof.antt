@@ -19,31 +19,24 @@ use Rattle.card.proofs.begin.put_commitments.Tie as tie
 mul-put-heading : tie.Need-mul-put-heading
 mul-put-heading c = let h = c .before .before .before .before .pre in omega arith
 
--- src/begin.rt:38:5
 put-heading-requires : tie.Need-put-heading-requires
 put-heading-requires c κs = let h = c .before .before .before .before .before .pre in search needs
 
--- src/begin.rt:39:46
 sub-commit-all : tie.Need-sub-commit-all
 sub-commit-all c = search needs
 
--- src/begin.rt:39:46
 part-commit-all-start : tie.Need-part-commit-all-start
 part-commit-all-start c = search needs
 
--- src/begin.rt:39:46
 part-commit-all-end : tie.Need-part-commit-all-end
 part-commit-all-end c = search needs
 
--- src/begin.rt:39:5
 commit-all-requires : tie.Need-commit-all-requires
 commit-all-requires c κs = search needs
 
--- src/begin.rt:26:1
 same-length : tie.Need-same-length
 same-length c = search needs
 
--- src/begin.rt:26:1
 returns : tie.Need-returns
 returns c =
     let g = c .before .before .before .before .before .before .before .before .before .before .before .before .args in let f = commitmentsAt (systemOf (g .a .now) (g .n) (g .m)) (g .pi .now) (g .choices .now) in

@@ -8,11 +8,9 @@ use Rattle.card.proofs.give_up.give_up_step.Tie as tie
 zero-requires : tie.Need-zero-requires
 zero-requires c κs = search needs
 
--- src/give_up.rt:19:1
 same-length : tie.Need-same-length
 same-length c = search needs
 
--- src/give_up.rt:19:1
 returns : tie.Need-returns
 unfolding fresh
 returns c = record { moves = refl; clears = c .before .before .zero .ensures }

@@ -16,31 +16,24 @@ Inv-loop bytes₀ i₀ bytes i = (i ≤ length bytes₀) × (bytes ≡ replicate
 abbrev μ-loop : tie.MeasureT-loop
 μ-loop bytes₀ i₀ bytes i = length bytes₀ - i
 
--- src/give_up.rt:12:5
 loop-holds : tie.Need-loop-holds Inv-loop μ-loop
 loop-holds c = (omega arith, fill-none _ 0, refl)
 
--- src/give_up.rt:13:9
 slice-write-bytes : tie.Need-slice-write-bytes Inv-loop μ-loop
 slice-write-bytes c = omega arith
 
--- src/give_up.rt:14:9
 add-i : tie.Need-add-i Inv-loop μ-loop
 add-i c = omega arith
 
--- src/give_up.rt:12:5
 loop-less : tie.Need-loop-less Inv-loop μ-loop
 loop-less c = omega arith
 
--- src/give_up.rt:12:5
 loop-again : tie.Need-loop-again Inv-loop μ-loop
 loop-again c = let h = fill-more (c .before .loop .i) 0 (c .before .before .args .bytes .now) (omega arith) in (omega arith, rw (c .before .loop .inv .1) h, simp length-set (omega arith))
 
--- src/give_up.rt:8:1
 same-length : tie.Need-same-length Inv-loop μ-loop
 same-length c = c .before .loop .inv .2
 
--- src/give_up.rt:8:1
 returns : tie.Need-returns Inv-loop μ-loop
 returns c = let e : c .before .loop .i ≡ length (c .before .before .args .bytes .now) = omega arith in rw e at (c .before .loop .inv .1) ∙ simp (drop-length, append-nil)
 

@@ -13,11 +13,9 @@ use Rattle.card.proofs.open.check_all.Tie as tie
 check-open-requires : tie.Need-check-open-requires
 check-open-requires c κs = search needs
 
--- src/open.rt:81:29
 enum-known-x : tie.Need-enum-known-x
 enum-known-x c = search needs
 
--- src/open.rt:82:9
 returns : tie.Need-returns
 unfolding openRefusal
 returns c = stops _ (c .before .before .before .check-open .ensures) (c .before .x .given .1)
@@ -25,11 +23,9 @@ returns c = stops _ (c .before .before .before .check-open .ensures) (c .before 
 enum-told : tie.Need-enum-told
 enum-told c = search needs
 
--- src/open.rt:84:5
 check-own-requires : tie.Need-check-own-requires
 check-own-requires c κs = open-ready _ _ _ _ _ (open-told _ _ _ _ _ [] (sym (c .before .before .check-open .ensures) ∙ ap means (c .enum-told .given .1)))
 
--- src/open.rt:70:1
 returns-2 : tie.Need-returns-2
 unfolding openRefusal
 returns-2 c = goes-on (c .before .before .before .check-open .ensures) (c .before .enum-told .given .1) (c .check-own .ensures)

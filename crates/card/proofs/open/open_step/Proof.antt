@@ -27,15 +27,12 @@ past c = refusal-told _ _ _ _ _ [] (sym (c .before .before .check-all .ensures) 
 check-all-requires : tie.Need-check-all-requires
 check-all-requires c κs = search needs
 
--- src/open.rt:99:29
 enum-known-x : tie.Need-enum-known-x
 enum-known-x c = search needs
 
--- src/open.rt:108:9
 same-length : tie.Need-same-length
 same-length c = search needs
 
--- src/open.rt:108:9
 returns : tie.Need-returns
 unfolding openTold
 returns c = record { says = stops _ (c .before .before .before .check-all .ensures) (c .before .x .given .1); moves = refl; clears = refl; writes = refl }
@@ -43,53 +40,41 @@ returns c = record { says = stops _ (c .before .before .before .check-all .ensur
 enum-told : tie.Need-enum-told
 enum-told c = search needs
 
--- src/open.rt:113:18
 shared-slice-read-wide : tie.Need-shared-slice-read-wide
 shared-slice-read-wide c = let t = past (c .before) .lent .keys .systemThere in omega arith
 
--- src/open.rt:113:9
 wide-requires : tie.Need-wide-requires
 wide-requires c κs = search needs
 
--- src/open.rt:114:9
 wide-requires-2 : tie.Need-wide-requires-2
 wide-requires-2 c κs = search needs
 
--- src/open.rt:115:18
 sub-put-openings : tie.Need-sub-put-openings
 sub-put-openings c = let t = past (c .before .before .before) .lent .keys .secretThere in omega arith
 
--- src/open.rt:115:18
 part-put-openings-start : tie.Need-part-put-openings-start
 part-put-openings-start c = let t = past (c .before .before .before) .lent .keys .secretThere in omega arith
 
--- src/open.rt:115:18
 part-put-openings-end : tie.Need-part-put-openings-end
 part-put-openings-end c = search needs
 
--- src/open.rt:115:43
 sub-put-openings-2 : tie.Need-sub-put-openings-2
 sub-put-openings-2 c = let t = past (c .before .before .before .before) .sent .form .there in omega arith
 
--- src/open.rt:115:43
 part-put-openings-start-2 : tie.Need-part-put-openings-start-2
 part-put-openings-start-2 c = let t = past (c .before .before .before .before) .sent .form .there in omega arith
 
--- src/open.rt:115:43
 part-put-openings-end-2 : tie.Need-part-put-openings-end-2
 part-put-openings-end-2 c = search needs
 
--- src/open.rt:115:5
 put-openings-requires : tie.Need-put-openings-requires
 put-openings-requires c κs =
     let g = c .before .before .before .before .before .before .before .before .before .before .before .before .before .before .before .before .before .args in let h = past (c .before .before .before .before .before .before .before) in let k = keys (g .system .now) (g .public .now) (g .secret .now) in
     rw (c .before .before .before .before .before .wide .ensures .0, c .before .before .before .before .wide2 .ensures .0, rest-part Bits (g .message .now) 5 refl) (key-parts k _ _ (h .lent) _ _ refl refl, h .lent .keys .system .most, h .lent .most, bits-sent _ _ (g .message .now) (h .sent), h .enough)
 
--- src/open.rt:116:5
 zero-requires : tie.Need-zero-requires
 zero-requires c κs = search needs
 
--- src/open.rt:119:34
 mul-t24 : tie.Need-mul-t24
 mul-t24 c =
     let h = past (c .before .before .before .before .before .before .before .before .before .before .before .before .before .before .before) .lent in
@@ -98,7 +83,6 @@ mul-t24 c =
     let s = size-small Openings _ _ a b in
     omega arith
 
--- src/open.rt:119:30
 add-t15 : tie.Need-add-t15
 add-t15 c =
     let h = past (c .before .before .before .before .before .before .before .before .before .before .before .before .before .before .before) .lent in
@@ -107,15 +91,12 @@ add-t15 c =
     let s = size-small Openings _ _ a b in
     omega arith
 
--- src/open.rt:88:1
 same-length-2 : tie.Need-same-length-2
 same-length-2 c = search needs
 
--- src/open.rt:88:1
 same-length-3 : tie.Need-same-length-3
 same-length-3 c = search needs
 
--- src/open.rt:88:1
 returns-2 : tie.Need-returns-2
 unfolding openTold closed
 returns-2 c =

@@ -20,31 +20,24 @@ use Rattle.card.proofs.open.put_openings.Tie as tie
 mul-put-heading : tie.Need-mul-put-heading
 mul-put-heading c = let h = c .before .before .before .before .pre in let s = size-small Openings _ _ (h .1) (h .2) in omega arith
 
--- src/open.rt:34:5
 put-heading-requires : tie.Need-put-heading-requires
 put-heading-requires c κs = let h = c .before .before .before .before .before .pre in let s = size-small Openings _ _ (h .1) (h .2) in (omega arith, omega arith, omega arith, omega arith)
 
--- src/open.rt:35:44
 sub-open-all : tie.Need-sub-open-all
 sub-open-all c = search needs
 
--- src/open.rt:35:44
 part-open-all-start : tie.Need-part-open-all-start
 part-open-all-start c = search needs
 
--- src/open.rt:35:44
 part-open-all-end : tie.Need-part-open-all-end
 part-open-all-end c = search needs
 
--- src/open.rt:35:5
 open-all-requires : tie.Need-open-all-requires
 open-all-requires c κs = search needs
 
--- src/open.rt:30:1
 same-length : tie.Need-same-length
 same-length c = search needs
 
--- src/open.rt:30:1
 returns : tie.Need-returns
 returns c =
     let g = c .before .before .before .before .before .before .before .before .before .before .before .before .args in let f = openingAt (g .n) (g .pi .now) (g .bits .now) (g .choices .now) in

@@ -8,16 +8,13 @@ use Rattle.card.proofs.own_check.commitment_of.Tie as tie
 commitment-one-requires : tie.Need-commitment-one-requires
 commitment-one-requires c κs = let g = c .before .before .before .before .before .pre in let s = g .0 .most in let a = g .1 .len in let b = g .2 .len in (own _ _ (g .1), own _ _ (g .2), omega arith, omega arith, omega arith)
 
--- src/own_check.rt:36:9
 returns : tie.Need-returns
 unfolding committed
 returns c = rw (c .before .if1 .taken) (c .commitment-one .ensures)
 
--- src/own_check.rt:38:5
 commitment-zero-requires : tie.Need-commitment-zero-requires
 commitment-zero-requires c κs = let g = c .before .before .before .before .before .pre in (g .0, g .3, g .2 .len)
 
--- src/own_check.rt:23:1
 returns-2 : tie.Need-returns-2
 unfolding committed
 returns-2 c = rw (c .before .if1 .left) (c .commitment-zero .ensures)

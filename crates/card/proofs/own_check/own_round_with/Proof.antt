@@ -16,50 +16,39 @@ use Rattle.card.proofs.own_check.own_round_with.Tie as tie
 commitment-of-requires : tie.Need-commitment-of-requires
 commitment-of-requires c κs = let h = c .before .before .before .before .before .before .before .pre in (h .0, h .3, h .4, h .5)
 
--- src/own_check.rt:59:5
 first-answer-into-requires : tie.Need-first-answer-into-requires
 first-answer-into-requires c κs = let h = c .before .before .before .before .before .before .before .before .before .pre in let s = h .0 .most in let a = h .3 .len in let b = h .4 .len in (own _ _ (h .3), own _ _ (h .4), omega arith, omega arith, omega arith, omega arith, omega arith)
 
--- src/own_check.rt:60:5
 open-into-requires : tie.Need-open-into-requires
 open-into-requires c κs = let h = c .before .before .before .before .before .before .before .before .before .before .before .before .before .pre in let a = h .3 .len in let b = h .4 .len in (own _ _ (h .3), own _ _ (h .4), omega arith, omega arith)
 
--- src/own_check.rt:61:32
 slice-aggregate-passes : tie.Need-slice-aggregate-passes
 slice-aggregate-passes c = search needs
 
--- src/own_check.rt:61:45
 slice-reshare-prefix-passes : tie.Need-slice-reshare-prefix-passes
 slice-reshare-prefix-passes c = search needs
 
--- src/own_check.rt:61:45
 slice-aggregate-passes-2 : tie.Need-slice-aggregate-passes-2
 slice-aggregate-passes-2 c =
     let g = c .before .before .before .before .before .before .before .before .before .before .before .before .before .before .before .before .before .before .args in let h = c .before .before .before .before .before .before .before .before .before .before .before .before .before .before .before .before .before .before .pre in let x = pair (g .r .now) (g .sigma .now) in let lw : length (firstAnswer modulus (g .v .now) (g .pi .now) (g .c) x) ≡ g .n = answer-length modulus (g .n) (g .v .now) (g .pi .now) (g .c) x (h .3) (h .4) in let lt : length (opening (g .pi .now) (g .bit) (g .sigma .now)) ≡ g .n = opening-length (g .n) (g .pi .now) (g .bit) (g .sigma .now) (h .4) in sym (ap length (front _ _ _ (g .n) lw (c .before .before .before .before .before .before .before .before .first-answer-into .ensures)) ∙ lw)
 
--- src/own_check.rt:61:54
 slice-reshare-prefix-passes-2 : tie.Need-slice-reshare-prefix-passes-2
 slice-reshare-prefix-passes-2 c = search needs
 
--- src/own_check.rt:61:54
 slice-aggregate-passes-3 : tie.Need-slice-aggregate-passes-3
 slice-aggregate-passes-3 c =
     let g = c .before .before .before .before .before .before .before .before .before .before .before .before .before .before .before .before .before .before .before .args in let h = c .before .before .before .before .before .before .before .before .before .before .before .before .before .before .before .before .before .before .before .pre in let x = pair (g .r .now) (g .sigma .now) in let lw : length (firstAnswer modulus (g .v .now) (g .pi .now) (g .c) x) ≡ g .n = answer-length modulus (g .n) (g .v .now) (g .pi .now) (g .c) x (h .3) (h .4) in let lt : length (opening (g .pi .now) (g .bit) (g .sigma .now)) ≡ g .n = opening-length (g .n) (g .pi .now) (g .bit) (g .sigma .now) (h .4) in sym (ap length (front _ _ _ (g .n) lt (c .before .before .before .before .before .open-into .ensures)) ∙ lt)
 
--- src/own_check.rt:61:5
 passes-requires : tie.Need-passes-requires
 passes-requires c κs =
     let g = c .before .before .before .before .before .before .before .before .before .before .before .before .before .before .before .before .before .before .before .args in let h = c .before .before .before .before .before .before .before .before .before .before .before .before .before .before .before .before .before .before .before .pre in let x = pair (g .r .now) (g .sigma .now) in let lw : length (firstAnswer modulus (g .v .now) (g .pi .now) (g .c) x) ≡ g .n = answer-length modulus (g .n) (g .v .now) (g .pi .now) (g .c) x (h .3) (h .4) in let lt : length (opening (g .pi .now) (g .bit) (g .sigma .now)) ≡ g .n = opening-length (g .n) (g .pi .now) (g .bit) (g .sigma .now) (h .4) in rw (c .before .before .before .before .before .before .before .before .before .before .before .commitment-of .ensures, front _ _ _ (g .n) lw (c .before .before .before .before .before .before .before .before .before .first-answer-into .ensures), front _ _ _ (g .n) lt (c .before .before .before .before .before .open-into .ensures)) (h .0, h .1, h .2, digest-length _, lw, own _ _ (opening-perm (g .n) (g .pi .now) (g .bit) (g .sigma .now) (h .3) (h .4)), lt)
 
--- src/own_check.rt:42:1
 same-length : tie.Need-same-length
 same-length c = search needs
 
--- src/own_check.rt:42:1
 same-length-2 : tie.Need-same-length-2
 same-length-2 c = search needs
 
--- src/own_check.rt:42:1
 returns : tie.Need-returns
 returns c =
     let g = c .before .before .before .before .before .before .before .before .before .before .before .before .before .before .before .before .before .before .before .before .args in let h = c .before .before .before .before .before .before .before .before .before .before .before .before .before .before .before .before .before .before .before .before .pre in let x = pair (g .r .now) (g .sigma .now) in let lw : length (firstAnswer modulus (g .v .now) (g .pi .now) (g .c) x) ≡ g .n = answer-length modulus (g .n) (g .v .now) (g .pi .now) (g .c) x (h .3) (h .4) in let lt : length (opening (g .pi .now) (g .bit) (g .sigma .now)) ≡ g .n = opening-length (g .n) (g .pi .now) (g .bit) (g .sigma .now) (h .4) in c .passes .ensures ∙ own-parts (systemOf (g .a .now) (g .n) (g .m)) (g .v .now) (g .pi .now) (g .c) (g .bit) x _ _ _ (c .before .before .before .before .before .before .before .before .before .before .before .before .commitment-of .ensures) (front _ _ _ (g .n) lw (c .before .before .before .before .before .before .before .before .before .before .first-answer-into .ensures)) (front _ _ _ (g .n) lt (c .before .before .before .before .before .before .open-into .ensures))

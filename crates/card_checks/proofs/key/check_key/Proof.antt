@@ -12,11 +12,9 @@ use Rattle.card_checks.proofs.key.check_key.Tie as tie
 check-keys-requires : tie.Need-check-keys-requires
 check-keys-requires c κs = search needs
 
--- src/key.rt:53:29
 enum-known-x : tie.Need-enum-known-x
 enum-known-x c = search needs
 
--- src/key.rt:54:9
 returns : tie.Need-returns
 unfolding keyCheck
 returns c = record { says = stops _ (c .before .before .before .check-keys .ensures) (c .before .x .given .1) }
@@ -24,11 +22,9 @@ returns c = record { says = stops _ (c .before .before .before .check-keys .ensu
 enum-told : tie.Need-enum-told
 enum-told c = search needs
 
--- src/key.rt:56:5
 check-valid-requires : tie.Need-check-valid-requires
 check-valid-requires c κs = keys-told _ [] (sym (c .before .before .check-keys .ensures) ∙ ap means (c .enum-told .given .1))
 
--- src/key.rt:50:1
 returns-2 : tie.Need-returns-2
 unfolding keyCheck
 returns-2 c = record { says = goes-on (c .before .before .before .check-keys .ensures) (c .before .enum-told .given .1) (c .check-valid .ensures) }

@@ -24,64 +24,51 @@ n-fits c = let m = system-fits _ (system-fine (c .before .before)) .most in omeg
 read-system-requires : tie.Need-read-system-requires
 read-system-requires c κs = search needs
 
--- src/key.rt:22:26
 enum-known-x : tie.Need-enum-known-x
 enum-known-x c = search needs
 
--- src/key.rt:23:9
 returns : tie.Need-returns
 returns c = bad-system (keys (c .before .before .before .before .before .before .before .args .system .now) (c .before .before .before .before .before .before .before .args .public .now) (c .before .before .before .before .before .before .before .args .secret .now)) _ (c .before .before .before .read-system .ensures) _ (c .before .x .given .1)
 
 enum-told : tie.Need-enum-told
 enum-told c = search needs
 
--- src/key.rt:25:18
 shared-slice-read-wide : tie.Need-shared-slice-read-wide
 shared-slice-read-wide c = let t = system-fine (c .before) .form .there in omega arith
 
--- src/key.rt:25:9
 wide-requires : tie.Need-wide-requires
 wide-requires c κs = search needs
 
--- src/key.rt:26:56
 of-places-requires : tie.Need-of-places-requires
 of-places-requires c κs = search needs
 
--- src/key.rt:26:31
 read-frame-requires : tie.Need-read-frame-requires
 read-frame-requires c κs = rw (c .of-places .ensures) (record { places = n-fits (c .before); rounds = omega arith })
 
--- src/key.rt:26:26
 enum-known-x-2 : tie.Need-enum-known-x-2
 enum-known-x-2 c = search needs
 
--- src/key.rt:27:9
 returns-2 : tie.Need-returns-2
 returns-2 c = bad-public (keys (c .before .before .before .before .before .before .before .before .before .before .before .before .before .args .system .now) (c .before .before .before .before .before .before .before .before .before .before .before .before .before .args .public .now) (c .before .before .before .before .before .before .before .before .before .before .before .before .before .args .secret .now)) _ (c .before .before .before .before .before .before .before .before .before .read-system .ensures) _ _ _ (c .before .before .before .before .before .before .before .enum-told .given .1) _ (rw (c .before .before .before .before .of-places .ensures, c .before .before .before .before .before .wide .ensures .0) at (c .before .before .before .read-frame .ensures)) _ (c .before .x2 .given .1)
 
 enum-told-2 : tie.Need-enum-told-2
 enum-told-2 c = search needs
 
--- src/key.rt:29:56
 of-places-requires-2 : tie.Need-of-places-requires-2
 of-places-requires-2 c κs = search needs
 
--- src/key.rt:29:31
 read-frame-requires-2 : tie.Need-read-frame-requires-2
 read-frame-requires-2 c κs = rw (c .of-places2 .ensures) (record { places = n-fits (c .before .before .before .before .before); rounds = omega arith })
 
--- src/key.rt:29:26
 enum-known-x-3 : tie.Need-enum-known-x-3
 enum-known-x-3 c = search needs
 
--- src/key.rt:30:9
 returns-3 : tie.Need-returns-3
 returns-3 c = bad-secret (keys (c .before .before .before .before .before .before .before .before .before .before .before .before .before .before .before .before .before .args .system .now) (c .before .before .before .before .before .before .before .before .before .before .before .before .before .before .before .before .before .args .public .now) (c .before .before .before .before .before .before .before .before .before .before .before .before .before .before .before .before .before .args .secret .now)) _ (c .before .before .before .before .before .before .before .before .before .before .before .before .before .read-system .ensures) _ _ _ (c .before .before .before .before .before .before .before .before .before .before .before .enum-told .given .1) _ (rw (c .before .before .before .before .before .before .before .before .of-places .ensures, c .before .before .before .before .before .before .before .before .before .wide .ensures .0) at (c .before .before .before .before .before .before .before .read-frame .ensures)) _ _ _ (c .before .before .before .before .before .enum-told2 .given .1) _ (rw (c .before .before .before .before .of-places2 .ensures, c .before .before .before .before .before .before .before .before .before .wide .ensures .0) at (c .before .before .before .read-frame2 .ensures)) _ (c .before .x3 .given .1)
 
 enum-told-3 : tie.Need-enum-told-3
 enum-told-3 c = search needs
 
--- src/key.rt:19:1
 returns-4 : tie.Need-returns-4
 returns-4 c = good-keys (keys (c .before .before .before .before .before .before .before .before .before .before .before .before .before .before .before .before .args .system .now) (c .before .before .before .before .before .before .before .before .before .before .before .before .before .before .before .before .args .public .now) (c .before .before .before .before .before .before .before .before .before .before .before .before .before .before .before .before .args .secret .now)) _ (c .before .before .before .before .before .before .before .before .before .before .before .before .read-system .ensures) _ _ _ (c .before .before .before .before .before .before .before .before .before .before .enum-told .given .1) _ (rw (c .before .before .before .before .before .before .before .of-places .ensures, c .before .before .before .before .before .before .before .before .wide .ensures .0) at (c .before .before .before .before .before .before .read-frame .ensures)) _ _ _ (c .before .before .before .before .enum-told2 .given .1) _ (rw (c .before .before .before .of-places2 .ensures, c .before .before .before .before .before .before .before .before .wide .ensures .0) at (c .before .before .read-frame2 .ensures)) _ _ _ (c .enum-told3 .given .1)
 

@@ -11,67 +11,51 @@ use Rattle.card_checks.proofs.key.check_valid.Tie as tie
 shared-slice-read-wide : tie.Need-shared-slice-read-wide
 shared-slice-read-wide c = let t = c .before .before .before .before .pre .systemThere in omega arith
 
--- src/key.rt:40:9
 wide-requires : tie.Need-wide-requires
 wide-requires c κs = search needs
 
--- src/key.rt:41:18
 shared-slice-read-wide-2 : tie.Need-shared-slice-read-wide-2
 shared-slice-read-wide-2 c = let t = c .before .before .before .before .before .before .pre .systemThere in omega arith
 
--- src/key.rt:41:9
 wide-requires-2 : tie.Need-wide-requires-2
 wide-requires-2 c κs = search needs
 
--- src/key.rt:42:27
 sub-key-fault : tie.Need-sub-key-fault
 sub-key-fault c = let t = c .before .before .before .before .before .before .before .pre .systemThere in omega arith
 
--- src/key.rt:42:27
 part-key-fault-start : tie.Need-part-key-fault-start
 part-key-fault-start c = let t = c .before .before .before .before .before .before .before .pre .systemThere in omega arith
 
--- src/key.rt:42:27
 part-key-fault-end : tie.Need-part-key-fault-end
 part-key-fault-end c = search needs
 
--- src/key.rt:42:47
 sub-key-fault-2 : tie.Need-sub-key-fault-2
 sub-key-fault-2 c = let t = c .before .before .before .before .before .before .before .before .pre .publicThere in omega arith
 
--- src/key.rt:42:47
 part-key-fault-start-2 : tie.Need-part-key-fault-start-2
 part-key-fault-start-2 c = let t = c .before .before .before .before .before .before .before .before .pre .publicThere in omega arith
 
--- src/key.rt:42:47
 part-key-fault-end-2 : tie.Need-part-key-fault-end-2
 part-key-fault-end-2 c = search needs
 
--- src/key.rt:42:61
 sub-key-fault-3 : tie.Need-sub-key-fault-3
 sub-key-fault-3 c = let t = c .before .before .before .before .before .before .before .before .before .pre .secretThere in omega arith
 
--- src/key.rt:42:61
 part-key-fault-start-3 : tie.Need-part-key-fault-start-3
 part-key-fault-start-3 c = let t = c .before .before .before .before .before .before .before .before .before .pre .secretThere in omega arith
 
--- src/key.rt:42:61
 part-key-fault-end-3 : tie.Need-part-key-fault-end-3
 part-key-fault-end-3 c = search needs
 
--- src/key.rt:42:9
 key-fault-requires : tie.Need-key-fault-requires
 key-fault-requires c κs = parts-fit (keys (c .before .before .before .before .before .before .before .before .before .before .args .system .now) (c .before .before .before .before .before .before .before .before .before .before .args .public .now) (c .before .before .before .before .before .before .before .before .before .before .args .secret .now)) _ _ (c .before .before .before .before .before .wide .ensures .0) (c .before .before .before .wide2 .ensures .0) (c .before .before .before .before .before .before .before .before .before .before .pre)
 
--- src/key.rt:44:9
 refuse-requires : tie.Need-refuse-requires
 refuse-requires c κs = search needs
 
--- src/key.rt:44:9
 returns : tie.Need-returns
 returns c = c .refuse .ensures ∙ bad-key (keys (c .before .before .before .before .before .before .before .before .before .before .before .before .before .args .system .now) (c .before .before .before .before .before .before .before .before .before .before .before .before .before .args .public .now) (c .before .before .before .before .before .before .before .before .before .before .before .before .before .args .secret .now)) _ _ (c .before .before .key-fault .ensures ∙ parts-fault (keys (c .before .before .before .before .before .before .before .before .before .before .before .before .before .args .system .now) (c .before .before .before .before .before .before .before .before .before .before .before .before .before .args .public .now) (c .before .before .before .before .before .before .before .before .before .before .before .before .before .args .secret .now)) _ _ (c .before .before .before .before .before .before .before .before .wide .ensures .0) (c .before .before .before .before .before .before .wide2 .ensures .0)) (c .before .before .before .before .before .before .wide2 .ensures .0) (c .before .if1 .taken)
 
--- src/key.rt:36:1
 returns-2 : tie.Need-returns-2
 returns-2 c = good-key (keys (c .before .before .before .before .before .before .before .before .before .before .before .before .args .system .now) (c .before .before .before .before .before .before .before .before .before .before .before .before .args .public .now) (c .before .before .before .before .before .before .before .before .before .before .before .before .args .secret .now)) _ _ (c .before .key-fault .ensures ∙ parts-fault (keys (c .before .before .before .before .before .before .before .before .before .before .before .before .args .system .now) (c .before .before .before .before .before .before .before .before .before .before .before .before .args .public .now) (c .before .before .before .before .before .before .before .before .before .before .before .before .args .secret .now)) _ _ (c .before .before .before .before .before .before .before .wide .ensures .0) (c .before .before .before .before .before .wide2 .ensures .0)) (c .before .before .before .before .before .wide2 .ensures .0) (c .if1 .left)
 

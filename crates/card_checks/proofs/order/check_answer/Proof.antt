@@ -34,20 +34,16 @@ numbers-fit c =
 refuse-requires : tie.Need-refuse-requires
 refuse-requires c κs = search needs
 
--- src/order.rt:92:9
 returns : tie.Need-returns
 unfolding answerCheck
 returns c = c .refuse .ensures ∙ test-stops _ _ _ _ (ne-eqb _ COMMITTED (c .before .if1 .taken))
 
--- src/order.rt:94:34
 check-keys-requires : tie.Need-check-keys-requires
 check-keys-requires c κs = search needs
 
--- src/order.rt:94:29
 enum-known-x : tie.Need-enum-known-x
 enum-known-x c = search needs
 
--- src/order.rt:95:9
 returns-2 : tie.Need-returns-2
 unfolding answerCheck
 returns-2 c = test-goes-on _ _ _ (eq-eqb _ COMMITTED (c .before .before .before .before .if1 .left)) (stops _ (c .before .before .before .check-keys .ensures) (c .before .x .given .1))
@@ -55,52 +51,40 @@ returns-2 c = test-goes-on _ _ _ (eq-eqb _ COMMITTED (c .before .before .before 
 enum-told : tie.Need-enum-told
 enum-told c = search needs
 
--- src/order.rt:97:18
 shared-slice-read-wide : tie.Need-shared-slice-read-wide
 shared-slice-read-wide c = let t = keys-fine (c .before) .systemThere in omega arith
 
--- src/order.rt:97:9
 wide-requires : tie.Need-wide-requires
 wide-requires c κs = search needs
 
--- src/order.rt:98:38
 shared-slice-read-wide-2 : tie.Need-shared-slice-read-wide-2
 shared-slice-read-wide-2 c = let t = keys-fine (c .before .before .before) .systemThere in omega arith
 
--- src/order.rt:98:33
 wide-requires-2 : tie.Need-wide-requires-2
 wide-requires-2 c κs = search needs
 
--- src/order.rt:98:9
 record-fits-requires : tie.Need-record-fits-requires
 record-fits-requires c κs = search needs
 
--- src/order.rt:99:9
 refuse-requires-2 : tie.Need-refuse-requires-2
 refuse-requires-2 c κs = search needs
 
--- src/order.rt:99:9
 returns-3 : tie.Need-returns-3
 unfolding answerCheck
 returns-3 c = c .refuse2 .ensures ∙ test-goes-on _ _ _ (eq-eqb _ COMMITTED (c .before .before .before .before .before .before .before .before .before .before .if1 .left)) (goes-on (c .before .before .before .before .before .before .before .before .before .check-keys .ensures) (c .before .before .before .before .before .before .before .enum-told .given .1) (test-stops _ _ _ _ (rw (c .before .before .before .before .before .wide .ensures .0, c .before .before .before .wide2 .ensures .0) at (sym (c .before .before .record-fits .ensures)) ∙ not-true (c .before .before .record-fits .result) (c .before .if2 .taken))))
 
--- src/order.rt:101:9
 wide-requires-3 : tie.Need-wide-requires-3
 wide-requires-3 c κs = search needs
 
--- src/order.rt:102:60
 exactly-requires : tie.Need-exactly-requires
 exactly-requires c κs = search needs
 
--- src/order.rt:102:31
 read-frame-requires : tie.Need-read-frame-requires
 read-frame-requires c κs = rw (c .exactly .ensures) (let f = numbers-fit (c .before) in record { places = f .0; rounds = f .1 })
 
--- src/order.rt:102:26
 enum-known-x-2 : tie.Need-enum-known-x-2
 enum-known-x-2 c = search needs
 
--- src/order.rt:103:9
 returns-4 : tie.Need-returns-4
 unfolding answerCheck
 returns-4 c = test-goes-on _ _ _ (eq-eqb _ COMMITTED (c .before .before .before .before .before .before .before .before .before .before .before .before .before .before .before .if1 .left)) (goes-on (c .before .before .before .before .before .before .before .before .before .before .before .before .before .before .check-keys .ensures) (c .before .before .before .before .before .before .before .before .before .before .before .before .enum-told .given .1) (test-goes-on _ _ _ (rw (c .before .before .before .before .before .before .before .before .before .before .wide .ensures .0, c .before .before .before .before .before .before .before .before .wide2 .ensures .0) at (sym (c .before .before .before .before .before .before .before .record-fits .ensures)) ∙ not-false (c .before .before .before .before .before .before .before .record-fits .result) (c .before .before .before .before .before .before .if2 .left)) (frame-stops _ ((rw (c .before .before .before .before .exactly .ensures, c .before .before .before .before .before .before .before .before .before .before .wide .ensures .0, c .before .before .before .before .before .wide3 .ensures .0) at (c .before .before .before .read-frame .ensures)) .says) (c .before .x2 .given .1))))
@@ -108,19 +92,15 @@ returns-4 c = test-goes-on _ _ _ (eq-eqb _ COMMITTED (c .before .before .before 
 enum-told-2 : tie.Need-enum-told-2
 enum-told-2 c = search needs
 
--- src/order.rt:105:61
 mul-check-rest : tie.Need-mul-check-rest
 mul-check-rest c = let f = numbers-fit (c .before .before .before .before) in let s = size-small Answers _ _ (f .0) (f .1) in omega arith
 
--- src/order.rt:105:57
 add-check-rest : tie.Need-add-check-rest
 add-check-rest c = let f = numbers-fit (c .before .before .before .before) in let s = size-small Answers _ _ (f .0) (f .1) in omega arith
 
--- src/order.rt:105:5
 check-rest-requires : tie.Need-check-rest-requires
 check-rest-requires c κs = let f = numbers-fit (c .before .before .before .before) in (keys-fine (c .before .before .before .before .before .before .before .before .before .before .before), omega (arith, f .1))
 
--- src/order.rt:80:1
 returns-5 : tie.Need-returns-5
 unfolding answerCheck
 returns-5 c = test-goes-on _ _ _ (eq-eqb _ COMMITTED (c .before .before .before .before .before .before .before .before .before .before .before .before .before .before .before .if1 .left)) (goes-on (c .before .before .before .before .before .before .before .before .before .before .before .before .before .before .check-keys .ensures) (c .before .before .before .before .before .before .before .before .before .before .before .before .enum-told .given .1) (test-goes-on _ _ _ (rw (c .before .before .before .before .before .before .before .before .before .before .wide .ensures .0, c .before .before .before .before .before .before .before .before .wide2 .ensures .0) at (sym (c .before .before .before .before .before .before .before .record-fits .ensures)) ∙ not-false (c .before .before .before .before .before .before .before .record-fits .result) (c .before .before .before .before .before .before .if2 .left)) (frame-goes-on ((rw (c .before .before .before .before .exactly .ensures, c .before .before .before .before .before .before .before .before .before .before .wide .ensures .0, c .before .before .before .before .before .wide3 .ensures .0) at (c .before .before .before .read-frame .ensures)) .says) (c .before .enum-told2 .given .1) (rw (c .before .before .before .before .before .before .before .before .before .before .wide .ensures .0, c .before .before .before .before .before .wide3 .ensures .0) at (c .check-rest .ensures)))))

@@ -23,41 +23,32 @@ keys-fine c = keys-told _ [] (sym (c .before .before .check-keys .ensures) ∙ a
 at-rest-requires : tie.Need-at-rest-requires
 at-rest-requires c κs = search needs
 
--- src/order.rt:69:9
 refuse-requires : tie.Need-refuse-requires
 refuse-requires c κs = search needs
 
--- src/order.rt:69:9
 returns : tie.Need-returns
 unfolding beginCheck
 returns c = c .refuse .ensures ∙ test-stops _ _ _ _ (sym (c .before .before .at-rest .ensures) ∙ not-true (c .before .before .at-rest .result) (c .before .if1 .taken))
 
--- src/order.rt:71:16
 alone-requires : tie.Need-alone-requires
 alone-requires c κs = search needs
 
--- src/order.rt:71:9
 within-requires : tie.Need-within-requires
 within-requires c κs = search needs
 
--- src/order.rt:72:9
 refuse-requires-2 : tie.Need-refuse-requires-2
 refuse-requires-2 c κs = search needs
 
--- src/order.rt:72:9
 returns-2 : tie.Need-returns-2
 unfolding beginCheck
 returns-2 c = c .refuse2 .ensures ∙ test-goes-on _ _ _ (sym (c .before .before .before .before .before .at-rest .ensures) ∙ not-false (c .before .before .before .before .before .at-rest .result) (c .before .before .before .before .if1 .left)) (test-stops _ _ _ _ (rw (c .before .before .before .alone .ensures) at (sym (c .before .before .within .ensures)) ∙ not-true (c .before .before .within .result) (c .before .if2 .taken)))
 
--- src/order.rt:74:34
 check-keys-requires : tie.Need-check-keys-requires
 check-keys-requires c κs = search needs
 
--- src/order.rt:74:29
 enum-known-x : tie.Need-enum-known-x
 enum-known-x c = search needs
 
--- src/order.rt:75:9
 returns-3 : tie.Need-returns-3
 unfolding beginCheck
 returns-3 c = test-goes-on _ _ _ (sym (c .before .before .before .before .before .before .before .before .at-rest .ensures) ∙ not-false (c .before .before .before .before .before .before .before .before .at-rest .result) (c .before .before .before .before .before .before .before .if1 .left)) (test-goes-on _ _ _ (rw (c .before .before .before .before .before .before .alone .ensures) at (sym (c .before .before .before .before .before .within .ensures)) ∙ not-false (c .before .before .before .before .before .within .result) (c .before .before .before .before .if2 .left)) (stops _ (c .before .before .before .check-keys .ensures) (c .before .x .given .1)))
@@ -65,19 +56,15 @@ returns-3 c = test-goes-on _ _ _ (sym (c .before .before .before .before .before
 enum-told : tie.Need-enum-told
 enum-told c = search needs
 
--- src/order.rt:77:61
 mul-check-rest : tie.Need-mul-check-rest
 mul-check-rest c = let w = within-told (alone .rounds) (c .before .before .before .before .before .before .before .before .before .before .before .before .args .rounds) (rw (c .before .before .before .before .before .alone .ensures) at (sym (c .before .before .before .before .within .ensures)) ∙ not-false (c .before .before .before .before .within .result) (c .before .before .before .if2 .left)) in omega arith
 
--- src/order.rt:77:57
 add-check-rest : tie.Need-add-check-rest
 add-check-rest c = let w = within-told (alone .rounds) (c .before .before .before .before .before .before .before .before .before .before .before .before .args .rounds) (rw (c .before .before .before .before .before .alone .ensures) at (sym (c .before .before .before .before .within .ensures)) ∙ not-false (c .before .before .before .before .within .result) (c .before .before .before .if2 .left)) in omega arith
 
--- src/order.rt:77:5
 check-rest-requires : tie.Need-check-rest-requires
 check-rest-requires c κs = let w = within-told (alone .rounds) (c .before .before .before .before .before .before .before .before .before .before .before .before .args .rounds) (rw (c .before .before .before .before .before .alone .ensures) at (sym (c .before .before .before .before .within .ensures)) ∙ not-false (c .before .before .before .before .within .result) (c .before .before .before .if2 .left)) in (keys-fine (c), omega arith)
 
--- src/order.rt:57:1
 returns-4 : tie.Need-returns-4
 unfolding beginCheck
 returns-4 c = test-goes-on _ _ _ (sym (c .before .before .before .before .before .before .before .before .at-rest .ensures) ∙ not-false (c .before .before .before .before .before .before .before .before .at-rest .result) (c .before .before .before .before .before .before .before .if1 .left)) (test-goes-on _ _ _ (rw (c .before .before .before .before .before .before .alone .ensures) at (sym (c .before .before .before .before .before .within .ensures)) ∙ not-false (c .before .before .before .before .before .within .result) (c .before .before .before .before .if2 .left)) (goes-on (c .before .before .before .check-keys .ensures) (c .before .enum-told .given .1) (c .check-rest .ensures)))

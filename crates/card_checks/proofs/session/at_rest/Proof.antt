@@ -7,7 +7,6 @@ use Rattle.card_checks.proofs.session.at_rest.Tie as tie
 returns : tie.Need-returns
 returns c = idle-rests _ (c .if1 .taken)
 
--- src/session.rt:29:1
 returns-2 : tie.Need-returns-2
 returns-2 c = closed-decides _ (c .if1 .left) _ refl
 

@@ -12,39 +12,30 @@ Inv-loop kept rounds j₀ j = KeptTo rounds kept j
 abbrev μ-loop : tie.MeasureT-loop
 μ-loop kept rounds j₀ j = rounds - j
 
--- src/session.rt:57:9
 wide-requires : tie.Need-wide-requires Inv-loop μ-loop
 wide-requires c κs = search needs
 
--- src/session.rt:59:5
 loop-holds : tie.Need-loop-holds Inv-loop μ-loop
 loop-holds c = kept-none _ _
 
--- src/session.rt:60:23
 array-read-if1 : tie.Need-array-read-if1 Inv-loop μ-loop
 array-read-if1 c = let h = c .before .before .before .before .pre in let m = c .before .loop .inv .most in omega (arith, c .before .before .wide .ensures .0)
 
--- src/session.rt:60:23
 cast-if1 : tie.Need-cast-if1 Inv-loop μ-loop
 cast-if1 c = search needs
 
--- src/session.rt:61:13
 returns : tie.Need-returns Inv-loop μ-loop
 returns c = let e = c .before .before .before .wide .ensures .0 in rw e at (kept-high _ _ _ (c .before .before .loop .inv) (omega arith) (c .if1 .taken))
 
--- src/session.rt:63:9
 add-j : tie.Need-add-j Inv-loop μ-loop
 add-j c = search needs
 
--- src/session.rt:59:5
 loop-less : tie.Need-loop-less Inv-loop μ-loop
 loop-less c = let m = c .before .before .loop .inv .most in omega (arith, c .before .before .before .wide .ensures .0)
 
--- src/session.rt:59:5
 loop-again : tie.Need-loop-again Inv-loop μ-loop
 loop-again c = kept-more _ _ _ (c .before .before .loop .inv) (omega arith) (c .if1 .left)
 
--- src/session.rt:52:1
 returns-2 : tie.Need-returns-2 Inv-loop μ-loop
 returns-2 c = let e = c .before .before .wide .ensures .0 in rw e at (kept-all _ _ _ (c .before .loop .inv) (omega arith))
 

@@ -8,31 +8,24 @@ use Rattle.card_checks.proofs.session.record_fits.Tie as tie
 wide-requires : tie.Need-wide-requires
 wide-requires c κs = search needs
 
--- src/session.rt:43:9
 returns : tie.Need-returns
 returns c = let g = c .before .before .args .session in other-places g _ _ (λ e. c .if1 .taken (c .before .wide .ensures .0 ∙ e))
 
--- src/session.rt:45:8
 wide-requires-2 : tie.Need-wide-requires-2
 wide-requires-2 c κs = search needs
 
--- src/session.rt:46:9
 returns-2 : tie.Need-returns-2
 returns-2 c = let g = c .before .before .before .before .args .session in other-rows g _ _ (sym (c .before .before .before .wide .ensures .0) ∙ c .before .before .if1 .left) (λ e. c .if2 .taken (c .before .wide2 .ensures .0 ∙ e))
 
--- src/session.rt:48:12
 alone-requires : tie.Need-alone-requires
 alone-requires c κs = search needs
 
--- src/session.rt:48:28
 wide-requires-3 : tie.Need-wide-requires-3
 wide-requires-3 c κs = search needs
 
--- src/session.rt:48:5
 within-requires : tie.Need-within-requires
 within-requires c κs = search needs
 
--- src/session.rt:39:1
 returns-3 : tie.Need-returns-3
 returns-3 c = let g = c .before .before .before .before .before .before .before .args .session in rounds-decide g _ _ (sym (c .before .before .before .before .before .before .wide .ensures .0) ∙ c .before .before .before .before .before .if1 .left) (sym (c .before .before .before .before .wide2 .ensures .0) ∙ c .before .before .before .if2 .left) _ (c .within .ensures ∙ (rw (c .before .before .alone .ensures, c .before .wide3 .ensures .0)))
 

@@ -9,19 +9,15 @@ use Rattle.frames.proofs.write.put_frame.Tie as tie
 put-heading-requires : tie.Need-put-heading-requires
 put-heading-requires c κs = search needs
 
--- src/write.rt:78:19
 start-of-requires : tie.Need-start-of-requires
 start-of-requires c κs = search needs
 
--- src/write.rt:78:5
 copy-at-requires : tie.Need-copy-at-requires
 copy-at-requires c κs = search needs
 
--- src/write.rt:73:1
 same-length : tie.Need-same-length
 same-length c = search needs
 
--- src/write.rt:73:1
 returns : tie.Need-returns
 returns c =
     let g = c .before .before .before .before .before .before .before .before .before .before .before .args in

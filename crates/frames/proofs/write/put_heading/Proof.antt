@@ -12,58 +12,45 @@ use Rattle.frames.proofs.write.put_heading.Tie as tie
 start-of-requires : tie.Need-start-of-requires
 start-of-requires c κs = search needs
 
--- src/write.rt:60:17
 sub-count : tie.Need-sub-count
 sub-count c = search needs
 
--- src/write.rt:60:17
 add-count : tie.Need-add-count
 add-count c = search needs
 
--- src/write.rt:62:9
 cast-t10 : tie.Need-cast-t10
 cast-t10 c = search needs
 
--- src/write.rt:63:9
 cast-t12 : tie.Need-cast-t12
 cast-t12 c = search needs
 
--- src/write.rt:64:9
 version-of-requires : tie.Need-version-of-requires
 version-of-requires c κs = search needs
 
--- src/write.rt:65:9
 number-of-requires : tie.Need-number-of-requires
 number-of-requires c κs = search needs
 
--- src/write.rt:66:9
 cast-t15 : tie.Need-cast-t15
 cast-t15 c = search needs
 
--- src/write.rt:67:9
 cast-t16 : tie.Need-cast-t16
 cast-t16 c = search needs
 
--- src/write.rt:69:15
 array-share-prefix-bytes : tie.Need-array-share-prefix-bytes
 array-share-prefix-bytes c = search needs
 
--- src/write.rt:69:15
 slice-aggregate-copy-into : tie.Need-slice-aggregate-copy-into
 slice-aggregate-copy-into c = sym (laid-length _ _ _ _ _ _ (omega arith))
 
--- src/write.rt:69:5
 copy-into-requires : tie.Need-copy-into-requires
 copy-into-requires c κs =
     let g = c .before .before .before .before .before .before .args in
     let s = c .before .before .before .before .start-of .result in
     laid-fits s (s - 2 + g .size) (c .before .before .before .version-of .result) (c .before .before .number-of .result) (g .a) (g .b) _ (omega arith) (omega arith)
 
--- src/write.rt:55:1
 same-length : tie.Need-same-length
 same-length c = search needs
 
--- src/write.rt:55:1
 returns : tie.Need-returns
 returns c =
     let g = c .before .before .before .before .before .before .before .before .before .args in
