@@ -17,15 +17,15 @@ use Rattle.frames.specs.declared.kind.Kind.{Kind}
 use Rattle.frames.specs.declared.kind.Kind.the-variants.{Commitments, Challenges, Answers, Bits, Openings}
 use Rattle.frames.specs.Kinds.{limits, within, alone, table}
 use Rattle.frames.specs.Reading.{restOf, reading}
-use Rattle.frames.specs.Writing.{frame}
+use Rattle.frames.specs.Writing.{frame, frameSize}
 use Rattle.frames.specs.PackedBits.{bitAt}
 use Rattle.frames.proofs.Writing.{Plain}
 use Rattle.frames.proofs.Passing.{residues-pass, permutations-pass}
-use Rattle.frames.proofs.Spelling.{written-read, frame-spells}
+use Rattle.frames.proofs.Spelling.{Spells, written-read, frame-spells}
 use Rattle.round.specs.Round.{honest}
 use Rattle.round.proofs.Laws.{honest-shows}
-use Rattle.rounds.specs.Layout.{pairAt}
-use Rattle.rounds.specs.Rounds.{answerAt, openingAt}
+use Rattle.rounds.specs.Layout.{pairAt, messages}
+use Rattle.rounds.specs.Rounds.{answerAt, openingAt, honestRun}
 use Rattle.rounds.proofs.Runs.{commitments-length, answer-length, answer-residues, opening-length, opening-perm}
 use Rattle.card_checks.specs.Keys.{Keys, placesOf, publicOf, secretOf}
 use Rattle.card_checks.specs.Lent.{matrixOf, LentFits}
@@ -35,10 +35,15 @@ use Rattle.card.specs.Steps.{commitmentsOf, answersOf, openingsOf}
 
 pub record ReadBack (k : Kind) (a b : ℕ) (rest : List ℕ) : Type 0 where
   pub reads : reading k alone (frame k a b rest) ≡ done (a ∷ b ∷ table k .start ∷ [])
-  pub tail : restOf k (frame k a b rest) ≡ rest
+  pub spells : Spells k a b rest (frame k a b rest)
+  pub size : length (frame k a b rest) ≡ frameSize k a b
 
 read-back : (k : Kind) (a b : ℕ) (rest : List ℕ) → Plain k a b rest → ReadBack k a b rest
-read-back k a b rest p = record { reads = written-read k a b rest p; tail = frame-spells k a b rest (p .numbers) .tail }
+read-back k a b rest p =
+    let s = frame-spells k a b rest (p .numbers) in
+    let z = s .size in
+    let w = p .size in
+    record { reads = written-read k a b rest p; spells = s; size = omega arith }
 
 in-limits : (least greatest x : ℕ) → least ≤ x → x ≤ greatest → within (limits least greatest) x ≡ true
 in-limits least greatest x h l = rw (le-leb least x h, le-leb x greatest l)
@@ -135,3 +140,11 @@ module _ (k : Keys) (N : ℕ) (choices : List ℕ) (h : LentFits k N choices) wh
     openings-honest c j l =
         stretch-joined n N _ openings-length j l
         ∙ (rw (honest-shows (matrixOf k) (publicOf k) (secretOf k) c (bitAt bits j) (pairAt n choices j)))
+
+-- ---- all three together are an honest run
+
+pub honest-messages : (k : Keys) (N : ℕ) (choices challenges bits : List ℕ)
+    → messages (commitmentsOf N k choices) (restOf Challenges challenges) (answersOf N k challenges choices) (restOf Bits bits) (openingsOf N k bits choices)
+    ≡ honestRun (matrixOf k) (publicOf k) (secretOf k) N choices (restOf Challenges challenges) (restOf Bits bits)
+unfolding commitmentsOf answersOf openingsOf
+honest-messages k N choices challenges bits = refl

@@ -26,12 +26,13 @@ pub record Begun (s : Session) (N : ℕ) (k : Keys) (choices out : List ℕ) (ne
   pub found : BeginFits s N k choices (length out)
   pub size : bytes ≡ commitmentsSize N
   pub kept : next ≡ begun N k
+  pub rounds : next .rounds ≡ N
   pub output : after ≡ over (frame Commitments N 0 (commitmentsOf N k choices)) out
   pub reads : ReadBack Commitments N 0 (commitmentsOf N k choices)
 
 module _ (s : Session) (N : ℕ) (k : Keys) (choices out : List ℕ) (step : Step) (after : List ℕ) (bytes : ℕ) where
   pub begin-wrote : BeginStep s N k choices out step after → step .told ≡ Wrote bytes → Begun s N k choices out (step .next) after bytes
-  unfolding beginTold
+  unfolding beginTold begun
   begin-wrote p e =
       let t = first-done (beginCheck s N k choices (length out)) (done (commitmentsSize N ∷ [])) (bytes ∷ []) (sym (p .says) ∙ ap writtenMeans e) in
       let f = begin-told s N k choices (length out) (t .0 .0) (t .0 .1) in
@@ -39,6 +40,7 @@ module _ (s : Session) (N : ℕ) (k : Keys) (choices out : List ℕ) (step : Ste
         found = f;
         size = cc;
         kept = p .moves ∙ ap (λ (w : Written). unlessRefused w (begun N k) s) e;
+        rounds = ap (λ (z : Session). z .rounds) (p .moves ∙ ap (λ (w : Written). unlessRefused w (begun N k) s) e);
         output = p .writes ∙ ap (λ (w : Written). outAfter w (frame Commitments N 0 (commitmentsOf N k choices)) out) e;
         reads = commitments-read k N choices (f .lent);
       }
@@ -49,6 +51,7 @@ pub record Answered (s : Session) (k : Keys) (message choices out : List ℕ) (n
   pub found : AnswerFits s k message choices (length out)
   pub size : bytes ≡ answersSize (placesOf k) (s .rounds)
   pub kept : next ≡ answered s (restOf Challenges message)
+  pub rounds : next .rounds ≡ s .rounds
   pub output : after ≡ over (frame Answers (placesOf k) (s .rounds) (answersOf (s .rounds) k message choices)) out
   pub reads : ReadBack Answers (placesOf k) (s .rounds) (answersOf (s .rounds) k message choices)
 
@@ -64,7 +67,7 @@ pub record Opened (s : Session) (k : Keys) (message choices out : List ℕ) (nex
 
 module _ (s : Session) (k : Keys) (message choices out : List ℕ) (step : Step) (after : List ℕ) (bytes : ℕ) (e : step .told ≡ Wrote bytes) where
   pub answer-wrote : AnswerStep s k message choices out step after → Answered s k message choices out (step .next) after bytes
-  unfolding answerTold
+  unfolding answerTold answered
   answer-wrote p =
       let n = placesOf k in
       let N = s .rounds in
@@ -74,6 +77,7 @@ module _ (s : Session) (k : Keys) (message choices out : List ℕ) (step : Step)
         found = f;
         size = cc;
         kept = p .moves ∙ ap (λ (w : Written). unlessRefused w (answered s (restOf Challenges message)) s) e;
+        rounds = ap (λ (z : Session). z .rounds) (p .moves ∙ ap (λ (w : Written). unlessRefused w (answered s (restOf Challenges message)) s) e);
         output = p .writes ∙ ap (λ (w : Written). outAfter w (frame Answers n N (answersOf N k message choices)) out) e;
         reads = answers-read k N choices (f .lent) message;
       }

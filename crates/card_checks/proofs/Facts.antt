@@ -37,10 +37,18 @@ use Rattle.card_checks.proofs.Records.{record-told, kept-told}
 
 -- ---- the frames
 
-keys-fit : (k : Keys) → FrameFits System alone (k .system) → FrameFits Public (ofPlaces (placesOf k)) (k .public) → FrameFits Secret (ofPlaces (placesOf k)) (k .secret)
-    → KeysFit k
-keys-fit k s p q =
+-- each is read, and n is the system's
+pub record KeysRead (k : Keys) : Type 0 where
+  pub system : FrameFits System alone (k .system)
+  pub public : FrameFits Public (ofPlaces (placesOf k)) (k .public)
+  pub secret : FrameFits Secret (ofPlaces (placesOf k)) (k .secret)
+
+keys-fit : (k : Keys) → KeysRead k → KeysFit k
+keys-fit k h =
     let n = placesOf k in
+    let s = h .system in
+    let p = h .public in
+    let q = h .secret in
     let a = first-asked Secret (ofPlaces n) (k .secret) (q .form) n refl in
     let l : length (secretOf k) ≡ n = rest-length Secret (ofPlaces n) (k .secret) (q .form) ∙ a in
     record {
@@ -53,17 +61,23 @@ keys-fit k s p q =
       perm = subst (λ (z : ℕ). IsPerm z (secretOf k)) a (permutation-told _ (firstOf (k .secret)) _ (secretOf k) (q .content .0) (omega arith) (q .content .1));
     }
 
-pub keys-told : (k : Keys) (v : List ℕ) → keysCheck k ≡ done v → KeysFit k
+pub keys-read : (k : Keys) (v : List ℕ) → keysCheck k ≡ done v → KeysRead k
 unfolding keysCheck
-keys-told k v e =
+keys-read k v e =
     let n = placesOf k in
     let r3 : Told = first (reading Secret (ofPlaces n) (k .secret)) fine in
     let r2 : Told = first (reading Public (ofPlaces n) (k .public)) r3 in
     let a = first-done (reading System alone (k .system)) r2 v e in
     let b = first-done (reading Public (ofPlaces n) (k .public)) r3 v (a .1) in
     let c = first-done (reading Secret (ofPlaces n) (k .secret)) fine v (b .1) in
-    keys-fit k (reading-told System alone (k .system) (a .0 .0) (a .0 .1) .0) (reading-told Public (ofPlaces n) (k .public) (b .0 .0) (b .0 .1) .0)
-    (reading-told Secret (ofPlaces n) (k .secret) (c .0 .0) (c .0 .1) .0)
+    record {
+      system = reading-told System alone (k .system) (a .0 .0) (a .0 .1) .0;
+      public = reading-told Public (ofPlaces n) (k .public) (b .0 .0) (b .0 .1) .0;
+      secret = reading-told Secret (ofPlaces n) (k .secret) (c .0 .0) (c .0 .1) .0;
+    }
+
+pub keys-told : (k : Keys) (v : List ℕ) → keysCheck k ≡ done v → KeysFit k
+keys-told k v e = keys-fit k (keys-read k v e)
 
 -- ---- the key
 
@@ -124,6 +138,7 @@ rest-told k N choices need room v f some most e =
 
 pub record BeginFits (s : Session) (N : ℕ) (k : Keys) (choices : List ℕ) (room : ℕ) : Type 0 where
   pub stage : atRest (s .stage) ≡ true
+  pub read : KeysRead k
   pub lent : LentFits k N choices
   pub enough : commitmentsSize N ≤ room
 
@@ -137,7 +152,7 @@ begin-told s N k choices room v e =
     let w = within-told (alone .rounds) N (test-holds (within (alone .rounds) N) SHAPE NONE 0 r3 v e2) in
     let f = first-done (keysCheck k) r4 v (rest-done (within (alone .rounds) N) SHAPE NONE 0 r3 v e2) in
     let t = rest-told k N choices (commitmentsSize N) room v (keys-told k (f .0 .0) (f .0 .1)) (w .0) (w .1) (f .1) in
-    record { stage = test-holds (atRest (s .stage)) STAGE NONE 0 r2 v e; lent = t .0; enough = t .1 }
+    record { stage = test-holds (atRest (s .stage)) STAGE NONE 0 r2 v e; read = keys-read k (f .0 .0) (f .0 .1); lent = t .0; enough = t .1 }
 
 pub record AnswerFits (s : Session) (k : Keys) (message choices : List ℕ) (room : ℕ) : Type 0 where
   pub stage : s .stage ≡ COMMITTED

@@ -201,6 +201,12 @@ fits-read k e s f =
       f .content .1,
     )
 
+-- what is asked of the numbers is all that differs from call to call
+pub refit : (k : Kind) (e d : Expected) (s : List ℕ) → FrameFits k e s → fits k d (firstOf s) (secondOf k s) ≡ true → FrameFits k d s
+refit k e d s f t =
+    let g = f .form in
+    record { head = f .head; form = record { there = g .there; numbers = t; whole = g .whole; spare = g .spare }; content = f .content }
+
 -- what a reader's answer says
 pub frame-fits : (k : Kind) (e : Expected) (s : List ℕ) (r : Read) (x y z : ℕ) → Reads k e s r → r ≡ Frame x y z → FrameFits k e s
 frame-fits k e s r x y z m q = reading-told k e s _ (sym (m .says) ∙ ap readMeans q) .0

@@ -1,0 +1,2 @@
+-- The user's demands, one file each.
+pub mod Demand2
