@@ -1,5 +1,5 @@
 -- What a check that refuses nothing says, as plain facts.
-use mathlib.Core.Path.{_≡_, sym, ap, _∙_}
+use mathlib.Core.Path.{_≡_, refl, sym, ap, _∙_}
 use mathlib.Core.Bool.{Bool, true}
 use mathlib.Core.List.{List, [], _∷_}
 use Prim.Native.Nat.{ℕ, _+_, _-_, _*_, _≤_}
@@ -21,6 +21,7 @@ use Rattle.frames.specs.declared.read.Read.{Read}
 use Rattle.frames.specs.declared.read.Read.the-variants.{Frame}
 use Rattle.frames.specs.Kinds.{limits, within, alone, Modest, table, fits}
 use Rattle.frames.specs.Reading.{countOf, header, firstOf, secondOf, restOf, spareClear, shape, content, reading, readMeans, Reads}
+use Rattle.frames.proofs.Orders.{headed, spare-decides}
 
 -- ---- the header
 
@@ -188,7 +189,19 @@ reading-told k e s v q =
       cc,
     )
 
--- the same of a reader's answer
+-- and such a frame is read
+pub fits-read : (k : Kind) (e : Expected) (s : List ℕ) → FrameFits k e s → reading k e s ≡ done (firstOf s ∷ secondOf k s ∷ table k .start ∷ [])
+unfolding reading
+fits-read k e s f =
+    let h = f .head in
+    let g = f .form in
+    rw (
+      ← headed k s (table k .buffer) refl (h .four) (h .whole) (h .version) (h .number),
+      ← spare-decides k e s (firstOf s) (secondOf k s) refl refl (g .there) (g .numbers) (g .whole) true (sym (g .spare)),
+      f .content .1,
+    )
+
+-- what a reader's answer says
 pub frame-fits : (k : Kind) (e : Expected) (s : List ℕ) (r : Read) (x y z : ℕ) → Reads k e s r → r ≡ Frame x y z → FrameFits k e s
 frame-fits k e s r x y z m q = reading-told k e s _ (sym (m .says) ∙ ap readMeans q) .0
 

@@ -1,9 +1,9 @@
 -- Laws of what a call tells: an answer is fixed by what it means, and the first refusal of a chain.
 use mathlib.Core.Path.{_≡_, refl, sym, ap, _∙_}
 use mathlib.Core.Bool.{Bool, true, false}
-use mathlib.Core.List.{List}
+use mathlib.Core.List.{List, []}
 use mathlib.Core.Logic.{_⊎_, inl, inr}
-use Prim.Native.Nat.{ℕ, zero, suc, _+_, _<_}
+use Prim.Native.Nat.{ℕ, zero, suc, _+_, _≤_, _<_}
 use native.Mathlib.Nat.{not-suc-le-zero, le-refl}
 use native.Mathlib.Numerals.{add-one}
 use native.Mathlib.Decide.{ℕ-discrete}
@@ -60,6 +60,27 @@ demand-done false k l p values e = let z : _≡_ {A = ℕ} 0 1 = cc in absurd (o
 pub first-refused : (a b : Told) (k l p : ℕ) → first a b ≡ refused k l p → (a ≡ refused k l p) ⊎ (Passed a × (b ≡ refused k l p))
 first-refused (done v) b k l p e = inr ((v, refl), e)
 first-refused (refused x y z) b k l p e = inl e
+
+-- ---- the numbers that a chain refuses by
+
+abbrev pub AtMost : ℕ → Told → Type 0
+AtMost most a = (k l p : ℕ) → a ≡ refused k l p → k ≤ most
+
+pub done-most : (most : ℕ) (values : List ℕ) → AtMost most (done values)
+done-most most values k l p e = let z : _≡_ {A = ℕ} 0 1 = cc in absurd (omega arith)
+
+pub demand-most : (most : ℕ) (test : Bool) (x y z : ℕ) → x ≤ most → AtMost most (demand test x y z)
+demand-most most true x y z h k l p e = done-most most [] k l p e
+demand-most most false x y z h k l p e = let q : x ≡ k = cc in omega arith
+
+pub first-most : (most : ℕ) (a b : Told) → AtMost most a → AtMost most b → AtMost most (first a b)
+first-most most (done v) b f g = g
+first-most most (refused x y z) b f g = f
+
+pub below-most : (most n : ℕ) (f : ℕ → Told) → ((k : ℕ) → AtMost most (f k)) → AtMost most (firstBelow n f)
+unfolding firstBelow
+below-most most zero f h = done-most most []
+below-most most (suc n) f h = first-most most (firstBelow n f) (f n) (below-most most n f h) (h n)
 
 -- ---- the first refusal below n, as a loop goes through it: at the place k none was found before
 

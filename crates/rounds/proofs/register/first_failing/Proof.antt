@@ -24,7 +24,7 @@ unfolding firstFailing
 loop-holds c = (search needs, let e : (m : ℕ) → m - 0 ≡ m = λ m. omega arith in rw e)
 
 passes-at-requires : tie.Need-passes-at-requires Inv-loop μ-loop
-passes-at-requires c κs = let g = c .before .before .before .before .before .before .before .before .before in (g .pre .0, g .pre .1, g .pre .2, c .loop-test .taken)
+passes-at-requires c κs = let g = c .before .before .before .before .before .before .before .before .before in (g .pre .0, g .pre .1, g .pre .2, omega arith)
 
 returns : tie.Need-returns Inv-loop μ-loop
 returns c =

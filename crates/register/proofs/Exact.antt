@@ -1,0 +1,229 @@
+-- The exact verdict, both ways, for every grade and all bytes lent. Accepted N: every frame is well formed and agrees with the earlier ones,
+-- N suffices for the grade, and every round passes. FIRST or SECOND at r: frames and grade as before, the rounds below r pass and round r,
+-- which is of that bit, does not.
+use mathlib.Core.Path.{_≡_, refl, sym, ap, _∙_, subst}
+use mathlib.Core.Bool.{Bool, true, false, cond, not, false≢true}
+use mathlib.Core.List.{List, [], _∷_}
+use mathlib.Core.Logic.{_⊎_, inl, inr}
+use Prim.Native.Nat.{ℕ, _<_}
+use native.Mathlib.Decide.{ℕ-discrete, decLt}
+use native.Mathlib.Omega.{arith}
+use borrow.Author.Tests.{eqb-true, eq-eqb, ne-eqb, not-false, not-true}
+use lib.Dec.{eqb}
+use lib.ListN.{getD}
+use Rattle.refusals.specs.declared.Refusal.{Refusal}
+use Rattle.refusals.specs.Number.{PERM, WEAK}
+use Rattle.refusals.specs.Buffer.{NONE, OPENINGS}
+use Rattle.refusals.specs.Told.{Told, done, refused, fine, first, demand}
+use Rattle.refusals.proofs.Chain.{Passed, first-done, first-refused, demand-done, AtMost, done-most, demand-most, first-most}
+use Rattle.frames.specs.declared.kind.Kind.the-variants.{System, Public, Commitments, Challenges, Answers, Bits, Openings}
+use Rattle.frames.specs.Kinds.{alone, ofPlaces, exactly}
+use Rattle.frames.specs.Reading.{reading}
+use Rattle.frames.proofs.Facts.{fits-read, test-holds, rest-done}
+use Rattle.frames.proofs.Outcomes.{reading-most}
+use Rattle.rounds.proofs.Runs.{failing-found, all-pass}
+use Rattle.register.specs.declared.Verdict.{Verdict}
+use Rattle.register.specs.declared.Verdict.the-variants.{Accepted, Refused}
+use Rattle.register.specs.Verdict.{SignOn, placesOf, roundsOf, basisCheck, exchangeCheck, framesCheck, enough, systemIn, vectorIn, messagesIn, bitOf, roundPasses, roundsPassed, numberOf, roundsCheck, judging, verdictMeans, Judges}
+use Rattle.register.proofs.Orders.{in-order}
+use Rattle.register.proofs.Facts.{FramesFit, frames-told}
+use Rattle.register.proofs.Outcomes.{verdict-fixes}
+
+-- when a sign-on is accepted
+pub record Accepts (grade : ℕ) (x : SignOn) : Type 0 where
+  pub frames : FramesFit x
+  pub suffices : enough grade (roundsOf x) ≡ true
+  pub pass : (k : ℕ) → k < roundsOf x → roundPasses x k ≡ true
+
+-- when it fails at round r, which is of the bit
+pub record Fails (grade : ℕ) (x : SignOn) (bit : Bool) (r : ℕ) : Type 0 where
+  pub frames : FramesFit x
+  pub suffices : enough grade (roundsOf x) ≡ true
+  pub below : r < roundsOf x
+  pub before : (k : ℕ) → k < r → roundPasses x k ≡ true
+  pub here : roundPasses x r ≡ false
+  pub asked : bitOf x r ≡ bit
+
+-- ---- frames and grade
+
+frames-fine : (x : SignOn) → FramesFit x → framesCheck x ≡ fine
+unfolding framesCheck basisCheck exchangeCheck
+frames-fine x h =
+    let n = placesOf x in
+    let q = exactly (placesOf x) (roundsOf x) in
+    rw (
+      fits-read System alone (x .system) (h .basis .system),
+      fits-read Public (ofPlaces n) (x .key) (h .basis .key),
+      fits-read Commitments (ofPlaces n) (x .commitments) (h .basis .commitments),
+      fits-read Challenges q (x .challenges) (h .exchange .challenges),
+      fits-read Answers q (x .answers) (h .exchange .answers),
+      fits-read Bits q (x .bits) (h .exchange .bits),
+      fits-read Openings q (x .openings) (h .exchange .openings),
+    )
+
+-- frames refuse by the numbers up to PERM alone
+frames-most : (x : SignOn) → AtMost PERM (framesCheck x)
+unfolding framesCheck basisCheck exchangeCheck
+frames-most x =
+    let n = placesOf x in
+    let q = exactly n (roundsOf x) in
+    let r7 : Told = first (reading Openings (exactly n (roundsOf x)) (x .openings)) fine in
+    let r6 : Told = first (reading Bits (exactly n (roundsOf x)) (x .bits)) r7 in
+    let r5 : Told = first (reading Answers (exactly n (roundsOf x)) (x .answers)) r6 in
+    let r4 : Told = first (reading Challenges (exactly n (roundsOf x)) (x .challenges)) r5 in
+    let r3 : Told = first (reading Commitments (ofPlaces n) (x .commitments)) fine in
+    let r2 : Told = first (reading Public (ofPlaces n) (x .key)) r3 in
+    first-most PERM (first (reading System alone (x .system)) r2) r4
+    (first-most PERM (reading System alone (x .system)) r2 (reading-most System alone (x .system))
+    (first-most PERM (reading Public (ofPlaces n) (x .key)) r3 (reading-most Public (ofPlaces n) (x .key))
+    (first-most PERM (reading Commitments (ofPlaces n) (x .commitments)) fine (reading-most Commitments (ofPlaces n) (x .commitments)) (done-most PERM []))))
+    (first-most PERM (reading Challenges q (x .challenges)) r5 (reading-most Challenges q (x .challenges))
+    (first-most PERM (reading Answers q (x .answers)) r6 (reading-most Answers q (x .answers))
+    (first-most PERM (reading Bits q (x .bits)) r7 (reading-most Bits q (x .bits))
+    (first-most PERM (reading Openings q (x .openings)) fine (reading-most Openings q (x .openings)) (done-most PERM [])))))
+
+-- past both the rounds decide
+past-both : (grade : ℕ) (x : SignOn) → FramesFit x → enough grade (roundsOf x) ≡ true → judging grade x ≡ roundsCheck x
+past-both grade x h s = in-order grade x ∙ rw (frames-fine x h, s)
+
+-- ---- what the rounds say
+
+picked-done : (t : Bool) (u v : List ℕ) (k b p : ℕ) → cond t (done u) (refused k b p) ≡ done v → (t ≡ true) × (u ≡ v)
+picked-done true u v k b p e = (refl, cc)
+picked-done false u v k b p e = let z : _≡_ {A = ℕ} 0 1 = cc in absurd (omega arith)
+
+picked-refused : (t : Bool) (u : List ℕ) (k b p l c q : ℕ) → cond t (done u) (refused k b p) ≡ refused l c q → (t ≡ false) × (k ≡ l) × (b ≡ c) × (p ≡ q)
+picked-refused true u k b p l c q e = let z : _≡_ {A = ℕ} 0 1 = cc in absurd (omega arith)
+picked-refused false u k b p l c q e = (refl, cc, cc, cc)
+
+module _ (x : SignOn) where
+  abbrev at : ℕ
+  at = roundsPassed x
+
+  passed-before : (k : ℕ) → k < at → roundPasses x k ≡ true
+  passed-before k l = not-false _ (failing-found (systemIn x) (vectorIn x) (messagesIn x) (roundsOf x) .before k (omega arith) l)
+
+  fails-here : at < roundsOf x → roundPasses x at ≡ false
+  fails-here l = not-true _ (failing-found (systemIn x) (vectorIn x) (messagesIn x) (roundsOf x) .here l)
+
+  -- the first round that does not pass is the one before which all pass
+  found-at : (r : ℕ) → r < roundsOf x → ((k : ℕ) → k < r → roundPasses x k ≡ true) → roundPasses x r ≡ false → at ≡ r
+  found-at r l before here = step (ℕ-discrete at r)
+    where
+      step : Dec (at ≡ r) → at ≡ r
+      step (yes e) = e
+      step (no f) = step2 (decLt at r)
+        where
+          step2 : Dec (at < r) → at ≡ r
+          step2 (yes m) = absurd (false≢true (sym (fails-here (omega arith)) ∙ before at m))
+          step2 (no m) = absurd (false≢true (sym here ∙ passed-before r (omega arith)))
+
+  rounds-accepted : (v : List ℕ) → roundsCheck x ≡ done v → (at ≡ roundsOf x) × (roundsOf x ∷ [] ≡ v)
+  unfolding roundsCheck
+  rounds-accepted v e =
+      let p = picked-done (eqb at (roundsOf x)) (roundsOf x ∷ []) v (numberOf (bitOf x at)) OPENINGS at e in
+      (eqb-true _ _ (p .0), p .1)
+
+  rounds-refused : (k b r : ℕ) → roundsCheck x ≡ refused k b r → (at < roundsOf x) × (numberOf (bitOf x at) ≡ k) × (OPENINGS ≡ b) × (at ≡ r)
+  unfolding roundsCheck
+  rounds-refused k b r e =
+      let p = picked-refused (eqb at (roundsOf x)) (roundsOf x ∷ []) (numberOf (bitOf x at)) OPENINGS at k b r e in
+      (short (ℕ-discrete at (roundsOf x)) (p .0), p .1, p .2, p .3)
+    where
+      short : Dec (at ≡ roundsOf x) → eqb at (roundsOf x) ≡ false → at < roundsOf x
+      short (yes e) q = absurd (false≢true (sym q ∙ eq-eqb at (roundsOf x) e))
+      short (no f) q = let m = failing-found (systemIn x) (vectorIn x) (messagesIn x) (roundsOf x) .most in omega arith
+
+-- ---- FIRST and SECOND are told apart by the bit, and from every earlier refusal
+
+number-late : (bit : Bool) → WEAK < numberOf bit
+number-late false = omega arith
+number-late true = omega arith
+
+number-tells : (a b : Bool) → numberOf a ≡ numberOf b → a ≡ b
+number-tells false false e = refl
+number-tells false true e = absurd (omega arith)
+number-tells true false e = absurd (omega arith)
+number-tells true true e = refl
+
+-- ---- the definition of the verdict
+
+module _ (grade : ℕ) (x : SignOn) where
+  abbrev weak : Told
+  weak = demand (enough grade (roundsOf x)) WEAK NONE 0
+
+  pub accepted→ : (v : List ℕ) → judging grade x ≡ done v → (roundsOf x ∷ [] ≡ v) × Accepts grade x
+  accepted→ v e =
+      let a = first-done (framesCheck x) (first weak (roundsCheck x)) v (sym (in-order grade x) ∙ e) in
+      let r = rounds-accepted x v (rest-done (enough grade (roundsOf x)) WEAK NONE 0 (roundsCheck x) v (a .1)) in
+      let z = r .0 in (
+        r .1,
+        record {
+          frames = frames-told x (a .0 .0) (a .0 .1);
+          suffices = test-holds (enough grade (roundsOf x)) WEAK NONE 0 (roundsCheck x) v (a .1);
+          pass = λ k l. passed-before x k (omega arith);
+        },
+      )
+
+  pub accepted← : Accepts grade x → judging grade x ≡ done (roundsOf x ∷ [])
+  unfolding roundsCheck
+  accepted← h =
+      past-both grade x (h .frames) (h .suffices)
+      ∙ rw (eq-eqb (roundsPassed x) (roundsOf x) (all-pass (systemIn x) (vectorIn x) (messagesIn x) (roundsOf x) (h .pass)))
+
+  pub failed→ : (bit : Bool) (b r : ℕ) → judging grade x ≡ refused (numberOf bit) b r → (OPENINGS ≡ b) × Fails grade x bit r
+  failed→ bit b r e = step (first-refused (framesCheck x) (first weak (roundsCheck x)) (numberOf bit) b r (sym (in-order grade x) ∙ e))
+    where
+      last : FramesFit x → enough grade (roundsOf x) ≡ true → roundsCheck x ≡ refused (numberOf bit) b r → (OPENINGS ≡ b) × Fails grade x bit r
+      last f s q =
+          let p = rounds-refused x (numberOf bit) b r q in
+          let tells = number-tells (bitOf x (roundsPassed x)) bit (p .1) in (
+            p .2,
+            subst (Fails grade x bit) (p .3)
+                (record {
+                  frames = f;
+                  suffices = s;
+                  below = p .0;
+                  before = passed-before x;
+                  here = fails-here x (p .0);
+                  asked = tells;
+                }),
+          )
+
+      step2 : FramesFit x → (weak ≡ refused (numberOf bit) b r) ⊎ (Passed weak × (roundsCheck x ≡ refused (numberOf bit) b r)) → (OPENINGS ≡ b) × Fails grade x bit r
+      step2 f (inl q) = let m = demand-most WEAK (enough grade (roundsOf x)) WEAK NONE 0 (omega arith) (numberOf bit) b r q in let l = number-late bit in absurd (omega arith)
+      step2 f (inr (p, q)) = last f (demand-done (enough grade (roundsOf x)) WEAK NONE 0 (p .0) (p .1)) q
+
+      step : (framesCheck x ≡ refused (numberOf bit) b r) ⊎ (Passed (framesCheck x) × (first weak (roundsCheck x) ≡ refused (numberOf bit) b r))
+          → (OPENINGS ≡ b) × Fails grade x bit r
+      step (inl q) = let m = frames-most x (numberOf bit) b r q in let l = number-late bit in absurd (omega arith)
+      step (inr (p, q)) = step2 (frames-told x (p .0) (p .1)) (first-refused weak (roundsCheck x) (numberOf bit) b r q)
+
+  pub failed← : (bit : Bool) (r : ℕ) → Fails grade x bit r → judging grade x ≡ refused (numberOf bit) OPENINGS r
+  unfolding roundsCheck
+  failed← bit r h =
+      let e = found-at x r (h .below) (h .before) (h .here) in
+      let l = h .below in
+      past-both grade x (h .frames) (h .suffices)
+      ∙ rw (ne-eqb (roundsPassed x) (roundsOf x) (λ q. absurd (omega arith)), e, h .asked)
+
+-- ---- the same of the call's answer
+
+module _ (grade : ℕ) (x : SignOn) (answer : Verdict) (j : Judges grade x answer) where
+  pub answer-accepted→ : (N : ℕ) → answer ≡ Accepted N → (N ≡ roundsOf x) × Accepts grade x
+  answer-accepted→ N e =
+      let a = accepted→ grade x (N ∷ []) (sym (j .says) ∙ ap verdictMeans e) in
+      (sym (ap (λ (v : List ℕ). getD v 0 0) (a .0)), a .1)
+
+  pub answer-accepted← : Accepts grade x → answer ≡ Accepted (roundsOf x)
+  answer-accepted← h = verdict-fixes answer (Accepted (roundsOf x)) (j .says ∙ accepted← grade x h)
+
+  pub answer-failed→ : (bit : Bool) (refusal : Refusal) → refusal .number ≡ numberOf bit → answer ≡ Refused refusal
+      → (OPENINGS ≡ refusal .buffer) × Fails grade x bit (refusal .place)
+  answer-failed→ bit refusal n e =
+      failed→ grade x bit (refusal .buffer) (refusal .place)
+      (sym (j .says) ∙ ap verdictMeans e ∙ ap (λ (k : ℕ). refused k (refusal .buffer) (refusal .place)) n)
+
+  pub answer-failed← : (bit : Bool) (r : ℕ) → Fails grade x bit r → answer ≡ Refused (record { number = numberOf bit; buffer = OPENINGS; place = r })
+  answer-failed← bit r h =
+      verdict-fixes answer (Refused (record { number = numberOf bit; buffer = OPENINGS; place = r })) (j .says ∙ failed← grade x bit r h)

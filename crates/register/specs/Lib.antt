@@ -1,0 +1,3 @@
+-- The verdict, and how the program's input is cut.
+pub mod Verdict
+pub mod Cutting
