@@ -1,14 +1,15 @@
 // The calls by their numbers in a case, each with its line.
 use crate::case::buffer_of;
 use crate::case::call_of;
+use crate::case::lay;
 use crate::case::number_of;
+use crate::sign_on::replay_sign_on;
 use crate::tell::tell_bytes;
 use crate::tell::tell_checked;
 use crate::tell::tell_number;
 use crate::tell::tell_read;
 use crate::tell::tell_taken;
 use crate::tell::tell_written;
-use algebra::output::copy_into;
 use draw::Taken;
 use draw::choices::draw_choices;
 use draw::key::make_key;
@@ -39,18 +40,6 @@ use frames::write::write_system;
 use libc::STDOUT_FILENO;
 use sha256::hash;
 use stand_in::stand_in;
-ghost use Rattle.io.specs.Counts.{Counts};
-
-// Copies a buffer that is lent for writing into the room, and answers its length; a case has none that is longer than the room.
-fn lay(buffer: &[u8], room: &mut [u8]) -> usize
-    ensures { λ r. ⌜ Counts r (now (room .exit)) ⌝ }
-{
-    if room.len() < buffer.len() {
-        return 0;
-    }
-    copy_into(buffer, room);
-    buffer.len()
-}
 
 fn read(call: u8, frame: &[u8]) -> Read {
     match call {
@@ -150,6 +139,7 @@ fn replay_call(call: u8, case: &[u8], room: &mut [u8]) {
             let lent = lay(buffer_of(case, 2), room);
             replay_key(case, &mut room[..lent]);
         }
+        25..=30 => replay_sign_on(call, case, room),
         _ => {}
     }
 }
