@@ -73,11 +73,10 @@ fn replay_open(case: &[u8], choices: &mut [u8], out: &mut [u8]) {
     tell_bytes(out);
 }
 
-// Open alone is lent two buffers for writing.
-fn lend_open(case: &[u8], choices_room: &mut [u8], room: &mut [u8]) {
-    let choices_lent = lay(buffer_of(case, 5), choices_room);
-    let lent = lay(buffer_of(case, 6), room);
-    replay_open(case, &mut choices_room[..choices_lent], &mut room[..lent]);
+// Open alone is lent two buffers for writing: the choices are laid here.
+fn replay_open_in(case: &[u8], room: &mut [u8], out: &mut [u8]) {
+    let lent = lay(buffer_of(case, 5), room);
+    replay_open(case, &mut room[..lent], out);
 }
 
 fn replay_give_up(case: &[u8], choices: &mut [u8]) {
@@ -100,25 +99,16 @@ fn replay_verdict(case: &[u8]) {
     ));
 }
 
-pub fn replay_sign_on(call: u8, case: &[u8], room: &mut [u8]) {
+pub fn replay_sign_on(call: u8, case: &[u8], out: &mut [u8]) {
     match call {
         25 => replay_key_check(case),
-        26 => {
-            let lent = lay(buffer_of(case, 5), room);
-            replay_begin(case, &mut room[..lent]);
-        }
-        27 => {
-            let lent = lay(buffer_of(case, 6), room);
-            replay_answer(case, &mut room[..lent]);
-        }
+        26 => replay_begin(case, out),
+        27 => replay_answer(case, out),
         28 => {
-            let mut choices_room = [0u8; 16384];
-            lend_open(case, &mut choices_room, room);
+            let mut room = [0u8; 16384];
+            replay_open_in(case, &mut room, out);
         }
-        29 => {
-            let lent = lay(buffer_of(case, 1), room);
-            replay_give_up(case, &mut room[..lent]);
-        }
+        29 => replay_give_up(case, out),
         _ => replay_verdict(case),
     }
 }
