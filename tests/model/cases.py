@@ -21,17 +21,19 @@ from pathlib import Path
 from random import Random
 from typing import NamedTuple
 
+from card_cases import CARD_CALLS
 from draw_cases import DRAW_CALLS
 from frame_cases import FRAME_CALLS
 from hash_cases import HASH_CALLS
 from making import Given
+from register_cases import REGISTER_CALLS
 from signon import Refused
 from stand_in_cases import STAND_IN_CALLS
 
 REPLAY = Path(__file__).resolve().parents[2] / "crates" / "replay"
 SHOWN_WHOLE = 40
 
-CALLS = [*FRAME_CALLS, *HASH_CALLS, *STAND_IN_CALLS, *DRAW_CALLS]
+CALLS = [*FRAME_CALLS, *HASH_CALLS, *STAND_IN_CALLS, *DRAW_CALLS, *CARD_CALLS, *REGISTER_CALLS]
 """The number of a call in a case is its place here, from 1."""
 
 

@@ -7,6 +7,8 @@ ghost use Rattle.io.specs.Counts.{Counts};
 
 mod case;
 mod replay;
+mod session;
+mod sign_on;
 mod tell;
 
 // A proved loop has to end, and nothing says that the input does: no run has so many cases.

@@ -1,14 +1,15 @@
 // The calls by their numbers in a case, each with its line.
 use crate::case::buffer_of;
 use crate::case::call_of;
+use crate::case::lay;
 use crate::case::number_of;
+use crate::sign_on::replay_sign_on;
 use crate::tell::tell_bytes;
 use crate::tell::tell_checked;
 use crate::tell::tell_number;
 use crate::tell::tell_read;
 use crate::tell::tell_taken;
 use crate::tell::tell_written;
-use algebra::output::copy_into;
 use draw::Taken;
 use draw::choices::draw_choices;
 use draw::key::make_key;
@@ -39,18 +40,6 @@ use frames::write::write_system;
 use libc::STDOUT_FILENO;
 use sha256::hash;
 use stand_in::stand_in;
-ghost use Rattle.io.specs.Counts.{Counts};
-
-// Copies a buffer that is lent for writing into the room, and answers its length; a case has none that is longer than the room.
-fn lay(buffer: &[u8], room: &mut [u8]) -> usize
-    ensures { λ r. ⌜ Counts r (now (room .exit)) ⌝ }
-{
-    if room.len() < buffer.len() {
-        return 0;
-    }
-    copy_into(buffer, room);
-    buffer.len()
-}
 
 fn read(call: u8, frame: &[u8]) -> Read {
     match call {
@@ -129,29 +118,37 @@ fn replay_key(case: &[u8], out: &mut [u8]) {
     tell_bytes(out);
 }
 
-fn replay_call(call: u8, case: &[u8], room: &mut [u8]) {
+fn replay_call(call: u8, case: &[u8], out: &mut [u8]) {
     match call {
         1..=8 => tell_read(read(call, buffer_of(case, 0))),
-        9..=16 => {
-            let lent = lay(buffer_of(case, 1), room);
-            replay_write(call, case, &mut room[..lent]);
-        }
+        9..=16 => replay_write(call, case, out),
         17 => replay_opening(buffer_of(case, 0), number_of(case, 0)),
         18 => replay_hash(buffer_of(case, 0)),
-        19 => {
-            let lent = lay(buffer_of(case, 3), room);
-            replay_stand_in(case, &mut room[..lent]);
-        }
-        20..=23 => {
-            let lent = lay(buffer_of(case, 1), room);
-            replay_draw(call, case, &mut room[..lent]);
-        }
-        24 => {
-            let lent = lay(buffer_of(case, 2), room);
-            replay_key(case, &mut room[..lent]);
-        }
+        19 => replay_stand_in(case, out),
+        20..=23 => replay_draw(call, case, out),
+        24 => replay_key(case, out),
+        25..=30 => replay_sign_on(call, case, out),
         _ => {}
     }
+}
+
+// The place of the last buffer that is lent to a call for writing; where there is none, a place that no case has.
+fn lent_place(call: u8) -> usize {
+    match call {
+        9..=16 => 1,
+        19 => 3,
+        20..=23 => 1,
+        24 => 2,
+        26 => 5,
+        27..=28 => 6,
+        29 => 1,
+        _ => 7,
+    }
+}
+
+fn replay_in(call: u8, case: &[u8], room: &mut [u8]) {
+    let lent = lay(buffer_of(case, lent_place(call)), room);
+    replay_call(call, case, &mut room[..lent]);
 }
 
 // A case and its line.
@@ -160,6 +157,6 @@ pub fn replay(index: usize, case: &[u8]) {
     io::print_decimal(STDOUT_FILENO, index as u64);
     tell_number(wide(call));
     let mut room = [0u8; 16384];
-    replay_call(call, case, &mut room);
+    replay_in(call, case, &mut room);
     io::write_all(STDOUT_FILENO, b"\n");
 }

@@ -6,6 +6,7 @@ use frames::write::Written;
 use libc::STDOUT_FILENO;
 use refusals::Checked;
 use refusals::Refusal;
+use register::Verdict;
 
 // The most bytes that are printed one by one.
 const SHOWN_WHOLE: usize = 40;
@@ -15,8 +16,13 @@ pub fn tell_number(x: usize) {
     io::print_decimal(STDOUT_FILENO, x as u64);
 }
 
-fn tell_done() {
+pub fn tell_done() {
     io::write_all(STDOUT_FILENO, b" done");
+}
+
+fn tell_done_with(value: usize) {
+    tell_done();
+    tell_number(value);
 }
 
 fn tell_refusal(x: Refusal) {
@@ -47,21 +53,22 @@ pub fn tell_read(answer: Read) {
 
 pub fn tell_written(answer: Written) {
     match answer {
-        Written::Wrote(count) => {
-            tell_done();
-            tell_number(count);
-        }
+        Written::Wrote(count) => tell_done_with(count),
         Written::Refused(x) => tell_refusal(x),
     }
 }
 
 pub fn tell_taken(answer: Taken) {
     match answer {
-        Taken::Bytes(used) => {
-            tell_done();
-            tell_number(used);
-        }
+        Taken::Bytes(used) => tell_done_with(used),
         Taken::Refused(x) => tell_refusal(x),
+    }
+}
+
+pub fn tell_verdict(answer: Verdict) {
+    match answer {
+        Verdict::Accepted(rounds) => tell_done_with(rounds),
+        Verdict::Refused(x) => tell_refusal(x),
     }
 }
 

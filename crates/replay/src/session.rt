@@ -1,0 +1,52 @@
+// The session record in a case and in a line: 68 bytes.
+ghost use mathlib.Core.Path.{_≡_};
+ghost use lib.ListN.{length};
+use crate::case::byte_of;
+use crate::tell::tell_bytes;
+use algebra::output::copy_at;
+use algebra::output::copy_into;
+use card_checks::session::Session;
+
+// Where the challenges start.
+const CHALLENGES_AT: usize = 4;
+
+fn challenges_of(record: &[u8]) -> [u8; 64] {
+    let mut challenges = [0u8; 64];
+    let mut k: usize = 0;
+    while k < 64 {
+        challenges[k] = byte_of(record, CHALLENGES_AT + k);
+        k += 1;
+    }
+    challenges
+}
+
+pub fn session_of(record: &[u8]) -> Session {
+    Session {
+        stage: byte_of(record, 0),
+        n: byte_of(record, 1),
+        m: byte_of(record, 2),
+        rounds: byte_of(record, 3),
+        challenges: challenges_of(record),
+    }
+}
+
+fn put_challenges(challenges: [u8; 64], out: &mut [u8])
+    requires { ⌜ length (now out) ≡ 68 ⌝ }
+{
+    copy_at(&challenges, CHALLENGES_AT, out);
+}
+
+fn put_session(session: Session, out: &mut [u8])
+    requires { ⌜ length (now out) ≡ 68 ⌝ }
+{
+    let numbers = [session.stage, session.n, session.m, session.rounds];
+    let challenges = session.challenges;
+    copy_into(&numbers, out);
+    put_challenges(challenges, out);
+}
+
+pub fn tell_session(session: Session) {
+    let mut record = [0u8; 68];
+    put_session(session, &mut record);
+    tell_bytes(&record);
+}
