@@ -1,0 +1,2 @@
+-- What the C function answers.
+pub mod Answers
