@@ -1,7 +1,8 @@
 -- Laws of open: what its checks say, and SELF.
-use mathlib.Core.Path.{_≡_, refl}
+use mathlib.Core.Path.{_≡_, refl, sym}
 use mathlib.Core.List.{List}
 use Prim.Native.Nat.{ℕ}
+use native.Mathlib.Omega.{arith}
 use borrow.Author.Tests.{eq-eqb, ne-eqb}
 use lib.ListN.{length}
 use Rattle.refusals.specs.Number.{SELF}
@@ -9,14 +10,17 @@ use Rattle.refusals.specs.Buffer.{CHOICES}
 use Rattle.refusals.specs.Told.{done, refused, fine}
 use Rattle.refusals.proofs.Chain.{first-done}
 use Rattle.frames.specs.declared.kind.Kind.the-variants.{System, Public, Secret, Bits}
+use Rattle.frames.specs.Reading.{restOf}
 use Rattle.frames.proofs.Orders.{rest-part}
 use Rattle.round.specs.Round.{systemOf}
 use Rattle.card_checks.specs.declared.session.Session.{Session}
-use Rattle.card_checks.specs.Keys.{Keys, placesOf, rowsOf}
+use Rattle.card_checks.specs.Keys.{Keys, placesOf, rowsOf, publicOf, secretOf}
+use Rattle.card_checks.specs.Lent.{matrixOf}
 use Rattle.card_checks.specs.Asking.{openCheck}
 use Rattle.card_checks.proofs.Facts.{OpenFits, open-told}
 use Rattle.card.specs.Own.{ownFailing}
 use Rattle.card.specs.Steps.{faultyRound, OpenReady, ownCheck, openRefusal}
+use Rattle.card.proofs.Own.{own-never-fails}
 use Rattle.card.proofs.Parts.{from, bits-sent}
 
 module _ (s : Session) (k : Keys) (message choices : List ℕ) where
@@ -46,3 +50,10 @@ module _ (s : Session) (k : Keys) (message choices : List ℕ) where
     pub own-holds : failing ≡ N → fine ≡ ownCheck s k message choices
     unfolding ownCheck
     own-holds f = rw (← e, ← q, eq-eqb failing N f)
+
+  -- with a valid key and challenges that are residues it is never SELF
+  pub own-fine : OpenReady s k message choices → fine ≡ ownCheck s k message choices
+  own-fine h =
+      own-holds (s .rounds) (s .rounds)
+      (sym (own-never-fails (matrixOf k) (publicOf k) (secretOf k) (record { some = omega arith; fits = h .lent .keys .system }) (h .lent .valid) (s .rounds) choices (h .lent .well) (s .challenges) (restOf Bits message) (λ j l. let q = h .kept j l in omega arith)))
+      refl refl
