@@ -169,6 +169,7 @@ module _ (N : ℕ) (k : Keys) (choices challenges bits : List ℕ) (c : SignedOn
       omega arith
 
   round-passes : (j : ℕ) → j < N → roundPasses sent j ≡ true
+  unfolding sent
   round-passes j l =
       ap (λ (x : Messages). passesAt (matrixOf k) (publicOf k) x j) messages-sent
       ∙ honest-round-passes (matrixOf k) (publicOf k) (secretOf k) (record { some = omega arith; fits = lent .keys .system }) (lent .valid) N choices (lent .well) (restOf Challenges challenges) (restOf Bits bits) j l (challenge-small j l)
