@@ -4,7 +4,6 @@ use mathlib.Core.List.{List}
 use Prim.Native.Nat.{ℕ}
 use native.Mathlib.Omega.{arith}
 use borrow.Author.Tests.{eq-eqb, ne-eqb}
-use lib.ListN.{length}
 use Rattle.refusals.specs.Number.{SELF}
 use Rattle.refusals.specs.Buffer.{CHOICES}
 use Rattle.refusals.specs.Told.{done, refused, fine}

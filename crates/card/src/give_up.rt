@@ -2,7 +2,7 @@
 use card_checks::session::IDLE;
 use card_checks::session::Session;
 ghost use mathlib.Core.Path.{_≡_};
-ghost use Rattle.card.specs.Steps.{fresh, zeroed, GiveUpStep};
+ghost use Rattle.card.specs.Steps.{zeroed, GiveUpStep};
 
 // Fills the bytes with zeros.
 pub fn zero(bytes: &mut [u8])

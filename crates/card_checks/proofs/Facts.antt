@@ -1,7 +1,7 @@
 -- What a check that refuses nothing says of what is lent, as plain facts.
 use mathlib.Core.Path.{_≡_, refl, sym, _∙_, subst}
 use mathlib.Core.Bool.{true}
-use mathlib.Core.List.{List, []}
+use mathlib.Core.List.{List}
 use Prim.Native.Nat.{ℕ, _-_, _≤_, _<_}
 use native.Mathlib.Omega.{arith}
 use borrow.Author.Tests.{eqb-true, leb-true}
@@ -10,22 +10,21 @@ use lib.ListN.{length, getD, take, drop}
 use Rattle.refusals.specs.Number.{KEY, ROOM, SHAPE, STAGE}
 use Rattle.refusals.specs.Buffer.{SECRET, OUTPUT, NONE}
 use Rattle.refusals.specs.Told.{Told, done, fine, first, demand}
-use Rattle.refusals.proofs.Chain.{Passed, first-done, demand-done}
+use Rattle.refusals.proofs.Chain.{first-done, demand-done}
 use Rattle.algebra.specs.Residues.{modulus}
 use Rattle.algebra.specs.Permutations.{IsPerm}
 use Rattle.algebra.specs.Matrices.{keyFault, SystemFits}
-use Rattle.algebra.proofs.Lists.{length-stretch, stretch-fits}
+use Rattle.algebra.proofs.Lists.{stretch-fits}
 use Rattle.algebra.proofs.Matrices.{valid→}
 use Rattle.frames.specs.declared.kind.Kind.the-variants.{System, Public, Secret, Challenges, Bits}
-use Rattle.frames.specs.Kinds.{within, alone, ofPlaces, exactly, table}
-use Rattle.frames.specs.Reading.{firstOf, secondOf, restOf, reading}
-use Rattle.frames.specs.Choosing.{choiceSize, choiceOf, vectorOf, choicesCheck}
+use Rattle.frames.specs.Kinds.{within, alone, ofPlaces, exactly}
+use Rattle.frames.specs.Reading.{firstOf, reading}
+use Rattle.frames.specs.Choosing.{choiceSize, choicesCheck}
 use Rattle.frames.proofs.Facts.{test-holds, rest-done, within-told, rest-length, FrameFits, reading-told, first-asked}
 use Rattle.frames.proofs.Orders.{rest-part}
 use Rattle.frames.proofs.Passing.{system-fits}
 use Rattle.frames.proofs.Chosen.{values-told, permutation-told, choices-told}
 use Rattle.round.specs.Round.{ValidKey}
-use Rattle.rounds.specs.Layout.{AllWell}
 use Rattle.rounds.proofs.Cuts.{own, vector-length}
 use Rattle.card_checks.specs.declared.session.Session.{Session}
 use Rattle.card_checks.specs.Stages.{COMMITTED, ANSWERED}

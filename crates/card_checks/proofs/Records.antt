@@ -9,7 +9,6 @@ use native.Mathlib.Omega.{arith}
 use borrow.Author.Tests.{eq-eqb, ne-eqb, lt-ltb, le-ltb, eqb-true, ltb-true}
 use lib.Dec.{eqb}
 use lib.ListN.{getD}
-use Rattle.algebra.specs.Lists.{allBelow}
 use Rattle.algebra.specs.Residues.{modulus}
 use Rattle.algebra.proofs.Lists.{&&-left, &&-right, allBelow-at, allBelow-none, allBelow-all}
 use Rattle.frames.specs.Kinds.{within, alone}

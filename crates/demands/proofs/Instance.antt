@@ -1,6 +1,5 @@
 -- The hypotheses of demand 2 are met: 20 rounds of the small system of document 01. Refusals are computed, the hash is not.
-use mathlib.Core.Path.{_≡_, refl, sym, _∙_}
-use mathlib.Core.Bool.{true}
+use mathlib.Core.Path.{_≡_, refl}
 use mathlib.Core.List.{List, [], _∷_, _++_}
 use Prim.Native.Nat.{ℕ, zero, suc}
 use lib.ListN.{length, replicate, length-replicate}
@@ -18,8 +17,7 @@ use Rattle.card_checks.specs.declared.session.Session.{Session}
 use Rattle.card_checks.specs.Keys.{Keys, keys, keysCheck, validCheck}
 use Rattle.card_checks.specs.Asking.{atRest, recordFits, keptFit, restCheck, beginCheck, answerCheck, openCheck}
 use Rattle.card_checks.proofs.Facts.{open-told}
-use Rattle.card.specs.declared.Step.{Step}
-use Rattle.card.specs.Steps.{beginTold, begun, commitmentsOf, answerTold, answered, answersOf, ownCheck, openRefusal, openTold, closed, openingsOf, zeroed, fresh}
+use Rattle.card.specs.Steps.{beginTold, begun, commitmentsOf, answerTold, answered, answersOf, openRefusal, openTold, closed, openingsOf, zeroed, fresh}
 use Rattle.card.proofs.Opening.{open-ready, own-fine}
 use Rattle.register.specs.Verdict.{enough, judging}
 use Rattle.demands.proofs.Demand2.{SignedOn, sentBy, honest-card-accepted}

@@ -1,7 +1,6 @@
 // The bytes of a body after its numbers.
 use crate::bits::unused_clear;
 use crate::kind::Kind;
-use crate::kind::buffer_of;
 use algebra::MODULUS;
 use algebra::permutation::is_permutation;
 use refusals::Checked;

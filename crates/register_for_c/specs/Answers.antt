@@ -1,5 +1,5 @@
 -- What the C function answers, from what the verdict tells.
-use mathlib.Core.List.{List, [], _∷_}
+use mathlib.Core.List.{[], _∷_}
 use Rattle.refusals.specs.Told.{Told, done, refused}
 use Rattle.register_for_c.specs.declared.Answer.{Answer}
 
