@@ -4,7 +4,7 @@
 use mathlib.Core.Path.{_≡_, refl, sym, ap, _∙_, subst}
 use mathlib.Core.Bool.{true}
 use mathlib.Core.List.{List, [], _∷_}
-use Prim.Native.Nat.{ℕ, _≤_, _<_}
+use Prim.Native.Nat.{ℕ, _<_}
 use native.Mathlib.Nat.{le-refl}
 use native.Mathlib.Omega.{arith}
 use borrow.Author.Tests.{le-leb}
@@ -79,7 +79,7 @@ module _ (N : ℕ) (k : Keys) (choices challenges bits : List ℕ) (c : SignedOn
   abbrev n : ℕ
   n = placesOf k
 
-  begun-facts : Begun (c .record₀) N k choices (c .out₁) (c .begin .next) (c .commitments) (c .bytes₁)
+  pub begun-facts : Begun (c .record₀) N k choices (c .out₁) (c .begin .next) (c .commitments) (c .bytes₁)
   begun-facts = begin-wrote (c .record₀) N k choices (c .out₁) (c .begin) (c .commitments) (c .bytes₁) (c .begins) (c .begin-told)
 
   answered-facts : Answered (c .begin .next) k challenges choices (c .out₂) (c .answer .next) (c .answers) (c .bytes₂)
@@ -95,7 +95,7 @@ module _ (N : ℕ) (k : Keys) (choices challenges bits : List ℕ) (c : SignedOn
   rounds₂ : c .answer .next .rounds ≡ N
   rounds₂ = answered-facts .rounds ∙ rounds₁
 
-  lent : LentFits k N choices
+  pub lent : LentFits k N choices
   lent = begun-facts .found .lent
 
   -- the frames written
@@ -161,24 +161,27 @@ module _ (N : ℕ) (k : Keys) (choices challenges bits : List ℕ) (c : SignedOn
       rw (begun-facts .reads .spells .tail, answers-back .spells .tail, openings-back .spells .tail) (honest-messages k N choices challenges bits)
 
   -- every challenge is a residue
-  challenge-small : (j : ℕ) → j < N → getD (restOf Challenges challenges) j 0 ≤ modulus
-  challenge-small j l =
+  pub challenge-below : (j : ℕ) → j < N → getD (restOf Challenges challenges) j 0 < modulus
+  challenge-below j l =
       let f = answered-facts .found .sent in
       let e = rest-length Challenges _ challenges (f .form) ∙ first-asked Challenges _ challenges (f .form) _ refl ∙ rounds₁ in
-      let r = values-told _ _ (restOf Challenges challenges) (f .content .0) (f .content .1) j (omega arith) in
-      omega arith
+      values-told _ _ (restOf Challenges challenges) (f .content .0) (f .content .1) j (omega arith)
 
   round-passes : (j : ℕ) → j < N → roundPasses sent j ≡ true
   unfolding sent
   round-passes j l =
       ap (λ (x : Messages). passesAt (matrixOf k) (publicOf k) x j) messages-sent
-      ∙ honest-round-passes (matrixOf k) (publicOf k) (secretOf k) (record { some = omega arith; fits = lent .keys .system }) (lent .valid) N choices (lent .well) (restOf Challenges challenges) (restOf Bits bits) j l (challenge-small j l)
+      ∙ honest-round-passes (matrixOf k) (publicOf k) (secretOf k) (record { some = omega arith; fits = lent .keys .system }) (lent .valid) N choices (lent .well) (restOf Challenges challenges) (restOf Bits bits) j l (let h = challenge-below j l in omega arith)
+
+  same : sentBy N k choices challenges bits c ≡ sent
+  unfolding sent
+  same = rw (commitments-sent, answers-sent, openings-sent)
+
+  pub sent-messages : messagesIn (sentBy N k choices challenges bits c) ≡ honestRun (matrixOf k) (publicOf k) (secretOf k) N choices (restOf Challenges challenges) (restOf Bits bits)
+  sent-messages = ap messagesIn same ∙ messages-sent
 
   pub honest-card-accepted : (grade : ℕ) → enough grade N ≡ true → judging grade (sentBy N k choices challenges bits c) ≡ done (N ∷ [])
   honest-card-accepted grade e =
       ap (λ (z : SignOn). judging grade z) same
       ∙ accepted← grade sent (record { frames = frames-fit; suffices = rw rounds-sent e; pass = λ j l. round-passes j (rw rounds-sent at l) })
       ∙ ap (λ (z : ℕ). done (z ∷ [])) rounds-sent
-    where
-      same : sentBy N k choices challenges bits c ≡ sent
-      same = unfold sent in rw (commitments-sent, answers-sent, openings-sent)

@@ -6,7 +6,7 @@ use Prim.Native.Nat.{ℕ, _+_, _-_, _*_, _<_}
 use native.Mathlib.Nat.{zero-mul}
 use native.Mathlib.Omega.{arith}
 use borrow.Author.Tests.{eq-eqb}
-use lib.ListN.{length, take, drop}
+use lib.ListN.{length, take}
 use lib.Seq.{take-all, take-at, drop-at}
 use Rattle.refusals.specs.Number.{PERM}
 use Rattle.refusals.specs.Buffer.{CHOICES}
@@ -58,15 +58,17 @@ pub record Chosen (n : ℕ) (choice : List ℕ) : Type 0 where
   pub residues : Residues modulus vector
   pub perm : IsPerm n permutation
 
+-- R and σ as they lie in them
+pub choice-parts : (n : ℕ) (r σ : List ℕ) → length r ≡ n → length σ ≡ n → (vectorOf n (r ++ σ) ≡ r) × (permutationOf n (r ++ σ) ≡ σ)
+unfolding vectorOf permutationOf
+choice-parts n r σ e f = (take-at r σ n e, ap (take n) (drop-at r σ n e) ∙ take-all n σ (omega arith))
+
 choice-passes : (n at : ℕ) (choice : List ℕ) → Chosen n choice → choiceCheck n at choice ≡ fine
-unfolding choiceCheck vectorOf permutationOf
+unfolding choiceCheck
 choice-passes n at choice c =
-    let r : take n choice ≡ c .vector = ap (take n) (c .both) ∙ take-at (c .vector) (c .permutation) n (c .len) in
-    let s : take n (drop n choice) ≡ c .permutation =
-    ap (λ (l : List ℕ). take n (drop n l)) (c .both) ∙ ap (take n) (drop-at (c .vector) (c .permutation) n (c .len))
-    ∙ take-all n (c .permutation) (let p = c .perm .len in omega arith) in
-    ap₂ first (ap (values CHOICES at) r ∙ residues-pass CHOICES at (c .vector) (c .residues))
-    (ap (permutations CHOICES n (at + n) 1) s ∙ permutation-passes CHOICES n (at + n) (c .permutation) (c .perm))
+    let p = choice-parts n (c .vector) (c .permutation) (c .len) (c .perm .len) in
+    ap₂ first (ap (values CHOICES at) (ap (vectorOf n) (c .both) ∙ p .0) ∙ residues-pass CHOICES at (c .vector) (c .residues))
+    (ap (permutations CHOICES n (at + n) 1) (ap (permutationOf n) (c .both) ∙ p .1) ∙ permutation-passes CHOICES n (at + n) (c .permutation) (c .perm))
 
 pub choices-pass : (n N : ℕ) (choices : List ℕ) → length choices ≡ N * choiceSize n → ((k : ℕ) → k < N → Chosen n (choiceOf choices n k))
     → choicesCheck n N choices ≡ fine

@@ -1,16 +1,17 @@
 -- What a check that refuses nothing says of the bytes lent, as plain facts.
 use mathlib.Core.Path.{_≡_, refl, sym, ap, _∙_, subst}
-use mathlib.Core.List.{List}
+use mathlib.Core.List.{List, _++_}
 use Prim.Native.Nat.{ℕ, _+_, _-_, _≤_, _<_}
 use native.Mathlib.Omega.{arith}
-use borrow.Author.Tests.{ltb-true}
+use borrow.Author.Tests.{ltb-true, lt-ltb}
 use lib.Dec.{eqb, ltb}
-use lib.ListN.{length, take, drop}
+use lib.ListN.{length, take, drop, length-append}
 use lib.Seq.{length-take-le}
 use Rattle.refusals.specs.Number.{SHAPE}
 use Rattle.refusals.specs.Buffer.{NONE}
-use Rattle.refusals.specs.Told.{Told, done, first, demand}
+use Rattle.refusals.specs.Told.{Told, done, fine, first, demand}
 use Rattle.refusals.proofs.Chain.{first-done}
+use Rattle.algebra.specs.Lists.{stretch}
 use Rattle.algebra.specs.Residues.{modulus}
 use Rattle.algebra.specs.Permutations.{IsPerm}
 use Rattle.algebra.specs.Matrices.{SystemFits}
@@ -18,11 +19,11 @@ use Rattle.frames.specs.declared.kind.Kind.the-variants.{System, Public}
 use Rattle.frames.specs.Kinds.{alone, ofPlaces}
 use Rattle.frames.specs.Reading.{firstOf, secondOf, restOf, reading}
 use Rattle.frames.specs.Choosing.{vectorOf, permutationOf, choicesCheck}
-use Rattle.frames.proofs.Facts.{test-holds, rest-done, rest-length, reading-told, first-asked}
+use Rattle.frames.proofs.Facts.{test-holds, rest-done, rest-length, FrameFits, reading-told, fits-read, first-asked}
 use Rattle.frames.proofs.Orders.{rest-part}
-use Rattle.frames.proofs.Passing.{system-fits}
+use Rattle.frames.proofs.Passing.{Chosen, choice-parts, choices-pass, system-fits}
 use Rattle.frames.proofs.Chosen.{Choice, choices-told, first-stretch}
-use Rattle.round.specs.Round.{systemOf, pair, WellFormed, standIn}
+use Rattle.round.specs.Round.{systemOf, Pair, pair, WellFormed, standIn}
 use Rattle.stand_in.specs.Standing.{lentCheck, standInOf}
 
 -- the choices of one round
@@ -98,3 +99,26 @@ module _ (c bit : ℕ) (system key lent : List ℕ) (h : LentFits c bit system k
   pub parts-stand-in : standIn (systemOf (from 6 system) n m) (from 5 key) c (eqb bit 1) (pair (take n lent) (from n lent)) ≡ standInOf c bit system key lent
   unfolding standInOf vectorOf
   parts-stand-in = rw (rest-part System system 6 refl, rest-part Public key 5 refl, tail, p, q)
+
+-- ---- a vector and a permutation, lent one behind the other
+
+module _ (c bit : ℕ) (system key : List ℕ) (y : Pair) (well : WellFormed (systemOf (restOf System system) (firstOf system) (secondOf System system)) y) where
+  pub stand-in-of : standInOf c bit system key (y .vector ++ y .permutation)
+      ≡ standIn (systemOf (restOf System system) (firstOf system) (secondOf System system)) (restOf Public key) c (eqb bit 1) y
+  unfolding standInOf
+  stand-in-of = let p = choice-parts (firstOf system) (y .vector) (y .permutation) (well .size) (well .perm .len) in rw (p .0, p .1)
+
+  -- they are accepted
+  pub lent-passes : c < modulus → bit < 2 → FrameFits System alone system → FrameFits Public (ofPlaces (firstOf system)) key
+      → lentCheck c bit system key (y .vector ++ y .permutation) ≡ fine
+  unfolding lentCheck
+  lent-passes h l f g =
+      let n = firstOf system in
+      let lent = y .vector ++ y .permutation in
+      let z : length lent ≡ n + n = omega (arith, length-append (y .vector) (y .permutation), well .size, well .perm .len) in
+      let chosen : Chosen n lent = record { vector = y .vector; permutation = y .permutation; both = refl; len = well .size; residues = well .residues; perm = well .perm } in
+      rw (lt-ltb c modulus h, lt-ltb bit 2 l, fits-read System alone system f, fits-read Public (ofPlaces n) key g)
+      (choices-pass n 1 lent (omega arith)
+      (λ k i.
+      let q : k ≡ 0 = omega arith in
+      subst (Chosen n) (sym (ap (λ (j : ℕ). stretch (n + n) j lent) q ∙ first-stretch (n + n) lent (omega arith))) chosen))

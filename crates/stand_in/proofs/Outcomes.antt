@@ -5,12 +5,13 @@ use mathlib.Core.Bool.{true}
 use mathlib.Core.List.{List, [], _∷_}
 use Prim.Native.Nat.{ℕ, _≤_}
 use native.Mathlib.Omega.{arith}
+use borrow.Author.Tests.{le-leb}
 use lib.Dec.{eqb, leb}
 use lib.ListN.{length}
 use Rattle.refusals.specs.declared.Refusal.{Refusal}
 use Rattle.refusals.specs.Number.{ROOM}
 use Rattle.refusals.specs.Buffer.{OUTPUT}
-use Rattle.refusals.specs.Told.{Told, done, first, demand}
+use Rattle.refusals.specs.Told.{Told, done, fine, first, demand}
 use Rattle.refusals.proofs.Chain.{Passed, first-done}
 use Rattle.algebra.specs.Residues.{modulus}
 use Rattle.frames.specs.declared.kind.Kind.the-variants.{System, Public}
@@ -33,6 +34,11 @@ module _ (c bit : ℕ) (system key lent out : List ℕ) where
 
   pub refused-changes-nothing : (r : Refusal) (after : List ℕ) → StandsIn c bit system key lent out (Refused r) after → after ≡ out
   refused-changes-nothing r after p = p .writes
+
+  -- a call whose lent bytes pass and for which there is room tells the size of a round
+  pub passed-tells : lentCheck c bit system key lent ≡ fine → roundSize (firstOf system) ≤ length out → standing c bit system key lent (length out) ≡ done (roundSize (firstOf system) ∷ [])
+  unfolding standing
+  passed-tells e l = rw (e, le-leb (roundSize (firstOf system)) (length out) l)
 
   -- ---- an accepted call
 
