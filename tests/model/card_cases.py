@@ -10,8 +10,9 @@ from random import Random
 from typing import NamedTuple
 
 import signon
-from frame_cases import Draft, each_place, frame_order, frame_refusals, in_frame, inside_frames, one_missing, other_number, to_frame
-from making import Call, Given, Highest, Lowest, absurd, every_damage, flipped, permutation, residues, rest_of, valid_key
+from frame_cases import Draft, each_place, frame_names, frame_order, frame_refusals, in_frame, inside_frames
+from frame_cases import one_missing, other_number, to_frame
+from making import Call, Given, Highest, Lowest, Names, absurd, every_damage, flipped, permutation, residues, rest_of, valid_key
 from signon import ANSWERED, CHOICES, CLOSED, COMMITTED, FRESH, IDLE, KEY, NONE, OUTPUT, P, PERM, ROOM, SECRET, SHAPE, STAGE, VALUE
 from signon import Outcome, Session
 
@@ -443,10 +444,21 @@ def give_up_inputs(rng):
 KEYS_REFUSALS = frame_refusals(1) | frame_refusals(2) | frame_refusals(3) | {(KEY, SECRET)}
 CARD_REFUSALS = KEYS_REFUSALS | {(STAGE, NONE), (SHAPE, CHOICES), (VALUE, CHOICES), (PERM, CHOICES), (ROOM, OUTPUT)}
 
+
+
+def step_names(form, numbers=(), changed=("session", "output")):
+    return Names(numbers, ("session", *frame_names(*form.kinds), "choices", "output"), ("bytes",), changed)
+
+
+KEY_CHECK_NAMES = Names(buffers=frame_names(*KEY_CHECK.kinds))
+BEGIN_NAMES = step_names(BEGIN, numbers=("rounds",))
+OPEN_NAMES = step_names(OPEN, changed=("session", "choices", "output"))
+GIVE_UP_NAMES = Names(buffers=("session", "choices"), after=("session", "choices"))
+
 CARD_CALLS = [
-    Call("key_check", KEY_CHECK.play, key_check_inputs, KEYS_REFUSALS),
-    Call("begin", BEGIN.play, begin_inputs, CARD_REFUSALS | {(SHAPE, NONE)}),
-    Call("answer", ANSWER.play, answer_inputs, CARD_REFUSALS | frame_refusals(5)),
-    Call("open", OPEN.play, open_inputs, CARD_REFUSALS | frame_refusals(7)),
-    Call("give_up", over_record(signon.give_up), give_up_inputs, set()),
+    Call("key_check", KEY_CHECK_NAMES, KEY_CHECK.play, key_check_inputs, KEYS_REFUSALS),
+    Call("begin", BEGIN_NAMES, BEGIN.play, begin_inputs, CARD_REFUSALS | {(SHAPE, NONE)}),
+    Call("answer", step_names(ANSWER), ANSWER.play, answer_inputs, CARD_REFUSALS | frame_refusals(5)),
+    Call("open", OPEN_NAMES, OPEN.play, open_inputs, CARD_REFUSALS | frame_refusals(7)),
+    Call("give_up", GIVE_UP_NAMES, over_record(signon.give_up), give_up_inputs, set()),
 ]

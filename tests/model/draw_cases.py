@@ -3,8 +3,8 @@ from collections.abc import Callable
 from typing import NamedTuple
 
 import signon
-from frame_cases import FRAME_DAMAGES, damaged_frame, frame_refusals
-from making import Call, Given, absurd, every_damage, rest_of
+from frame_cases import FRAME_DAMAGES, damaged_frame, frame_names, frame_refusals
+from making import Call, Given, Names, absurd, every_damage, rest_of
 from signon import DRAW, NONE, OUTPUT, RANDOM, ROOM, SHAPE, Done, frame_of, packed_size
 
 PLENTY = 20_000
@@ -60,33 +60,39 @@ def numbers_around(rng, small):
                 yield lent(rng, (*small[:place], number, *small[place + 1 :]), rng.randbytes(100), room)
 
 
-def drawing_by_numbers(name, draw, sizes, small, need):
+def drawing_names(numbers, frames):
+    return Names(numbers, (*frames, "random", "output"), ("used",), ("output",))
+
+
+def drawing_by_numbers(name, numbers, draw, sizes, small, need):
     drawing = Drawing(draw, need)
 
     def inputs(rng):
         enough = [just_enough(rng, drawing, size) for size in sizes]
         return [*enough, *around_enough(rng, drawing, small), *numbers_around(rng, small)]
 
-    return Call(name, lambda given: draw(*given.numbers, *given.buffers), inputs, {(SHAPE, NONE), (ROOM, OUTPUT), (DRAW, RANDOM)})
+    refusals = {(SHAPE, NONE), (ROOM, OUTPUT), (DRAW, RANDOM)}
+    return Call(name, drawing_names(numbers, ()), lambda given: draw(*given.numbers, *given.buffers), inputs, refusals)
 
 
 def permutation_call():
-    return drawing_by_numbers("draw_permutation", signon.draw_permutation, [(n,) for n in range(2, 65)], (6,), lambda n: n)
+    sizes = [(n,) for n in range(2, 65)]
+    return drawing_by_numbers("draw_permutation", ("n",), signon.draw_permutation, sizes, (6,), lambda n: n)
 
 
 def challenges_call():
     sizes = [(rounds,) for rounds in range(1, 65)]
-    return drawing_by_numbers("draw_challenges", signon.draw_challenges, sizes, (4,), lambda rounds: 5 + rounds)
+    return drawing_by_numbers("draw_challenges", ("rounds",), signon.draw_challenges, sizes, (4,), lambda rounds: 5 + rounds)
 
 
 def bits_call():
     sizes = [(rounds,) for rounds in range(1, 65)]
-    return drawing_by_numbers("draw_bits", signon.draw_bits, sizes, (11,), lambda rounds: 5 + packed_size(rounds))
+    return drawing_by_numbers("draw_bits", ("rounds",), signon.draw_bits, sizes, (11,), lambda rounds: 5 + packed_size(rounds))
 
 
 def choices_call():
     sizes = [(n, 1) for n in range(2, 65, 3)] + [(2, rounds) for rounds in range(2, 65, 3)] + [(64, 64)]
-    return drawing_by_numbers("draw_choices", signon.draw_choices, sizes, (3, 2), lambda n, rounds: 2 * n * rounds)
+    return drawing_by_numbers("draw_choices", ("n", "rounds"), signon.draw_choices, sizes, (3, 2), lambda n, rounds: 2 * n * rounds)
 
 
 def key_call():
@@ -104,7 +110,7 @@ def key_call():
             yield lent(rng, (damaged,), rng.randbytes(rng.choice((0, 50))), rng.choice((0, 50)))
 
     refusals = frame_refusals(1) | {(ROOM, OUTPUT), (DRAW, RANDOM)}
-    return Call("make_key", lambda given: signon.make_key(*given.buffers), inputs, refusals)
+    return Call("make_key", drawing_names((), frame_names(1)), lambda given: signon.make_key(*given.buffers), inputs, refusals)
 
 
 DRAW_CALLS = [permutation_call(), challenges_call(), bits_call(), choices_call(), key_call()]

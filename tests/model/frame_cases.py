@@ -1,6 +1,6 @@
 """The cases of the frames: eight readers, eight writers and the opening of a named round."""
 import signon
-from making import LARGEST, Call, Given, absurd, every_damage, flipped, pair, residues, rest_of
+from making import LARGEST, Call, Given, Names, absurd, every_damage, flipped, pair, residues, rest_of
 from signon import KIND, LONG, NONE, NUMBERS, OUTPUT, PERM, PERMUTATIONS, RESIDUES, ROOM, SHAPE, SHORT, VALUE, VERSION
 from signon import Outcome, buffer_of, frame_of, rest_size, start_of
 
@@ -195,12 +195,19 @@ def frame_refusals(kind):
     return {(number, buffer_of(kind)) for number in told}
 
 
-NAMES = "system public_key secret_key commitments challenges first_answers bits openings".split()
+FRAME_NAMES = "system public_key secret_key commitments challenges first_answers bits openings".split()
+NUMBER_NAMES = {"n": "n", "m": "m", "N": "rounds"}
+
+
+def frame_names(*kinds):
+    return tuple(FRAME_NAMES[kind - 1] for kind in kinds)
 
 
 def reader(kind):
+    (name,) = frame_names(kind)
     return Call(
-        name="read_" + NAMES[kind - 1],
+        name="read_" + name,
+        names=Names(buffers=(name,), values=("first", "second", "start")),
         play=lambda given: signon.read(kind, *given.buffers),
         inputs=lambda rng: [Given((), (frame,)) for frame in frames(rng, kind)],
         refusals=frame_refusals(kind),
@@ -356,8 +363,11 @@ def writer_refusals(kind):
 
 
 def writer(kind):
+    (name,) = frame_names(kind)
+    numbers = tuple(NUMBER_NAMES[letter] for letter in NUMBERS[kind])
     return Call(
-        name="write_" + NAMES[kind - 1],
+        name="write_" + name,
+        names=Names(numbers, ("plain", "output"), ("bytes",), ("output",)),
         play=lambda given: signon.write(kind, *pair(given.numbers), *given.buffers),
         inputs=lambda rng: plans(rng, kind),
         refusals=writer_refusals(kind),
@@ -382,7 +392,8 @@ def opening():
         arguments = (*given.buffers, *given.numbers)
         return Outcome(signon.check_opening(*arguments).answer, (signon.opening(*arguments),))
 
-    return Call("opening", play, named_rounds, frame_refusals(8) | {(SHAPE, NONE)})
+    names = Names(numbers=("round",), buffers=frame_names(8), after=("permutation",))
+    return Call("opening", names, play, named_rounds, frame_refusals(8) | {(SHAPE, NONE)})
 
 
 FRAME_CALLS = [*(reader(kind) for kind in range(1, 9)), *(writer(kind) for kind in range(1, 9)), opening()]

@@ -16,8 +16,19 @@ class Given(NamedTuple):
     buffers: tuple
 
 
+class Names(NamedTuple):
+    """What a call's numbers and buffers, the values of its success and what it shows afterwards are called, each in order. What is shown
+    afterwards under the name of a buffer is that buffer."""
+
+    numbers: tuple = ()
+    buffers: tuple = ()
+    values: tuple = ()
+    after: tuple = ()
+
+
 class Call(NamedTuple):
     name: str
+    names: Names
     play: Callable[[Given], Outcome]
     inputs: Callable[[Random], list]
     refusals: set

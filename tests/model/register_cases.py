@@ -1,9 +1,9 @@
 """The cases of the register: the verdict over honest sign-ons, over rounds of the stand-in, and over both once they are damaged."""
 import signon
 from card_cases import LARGE, Lent, extremes, sign_on
-from frame_cases import Draft, each_place, frame_order, frame_refusals, in_frame, inside_frames
+from frame_cases import Draft, each_place, frame_names, frame_order, frame_refusals, in_frame, inside_frames
 from frame_cases import number_out_of_limits, one_missing, other_number, to_frame
-from making import Call, Given, absurd, every_damage, permutation, residues
+from making import Call, Given, Names, absurd, every_damage, permutation, residues
 from signon import DIGEST, FIRST, NONE, OPENINGS, P, SECOND, WEAK, bit_at
 
 KINDS = 1, 2, 4, 5, 6, 7, 8
@@ -253,6 +253,7 @@ def verdict_inputs(rng):
 def verdict_call():
     return Call(
         name="verdict",
+        names=Names(("grade",), frame_names(*KINDS), ("rounds",)),
         play=lambda given: signon.verdict(*given.numbers, *given.buffers),
         inputs=verdict_inputs,
         refusals=set().union(*map(frame_refusals, KINDS)) | {(WEAK, NONE), (FIRST, OPENINGS), (SECOND, OPENINGS)},

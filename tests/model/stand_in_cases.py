@@ -1,7 +1,7 @@
 """The cases of the stand-in: every size, its numbers at and beyond their limits, and every set of damages of what it is lent."""
 import signon
-from frame_cases import FRAME_DAMAGES, Draft, frame_refusals
-from making import LARGEST, Call, Given, absurd, every_damage, permutation, residues
+from frame_cases import FRAME_DAMAGES, Draft, frame_names, frame_refusals
+from making import LARGEST, Call, Given, Names, absurd, every_damage, permutation, residues
 from signon import CHOICES, DIGEST, NONE, OUTPUT, P, PERM, ROOM, SHAPE, VALUE
 
 
@@ -110,6 +110,7 @@ def lendings(rng):
 def stand_in_call():
     return Call(
         name="stand_in",
+        names=Names(("challenge", "bit"), (*frame_names(1, 2), "vector_and_permutation", "output"), ("bytes",), ("output",)),
         play=lambda given: signon.stand_in(*given.numbers, *given.buffers),
         inputs=lambda rng: [lent.given() for lent in lendings(rng)],
         refusals={(SHAPE, NONE), (SHAPE, CHOICES), (VALUE, CHOICES), (PERM, CHOICES), (ROOM, OUTPUT)} | frame_refusals(1) | frame_refusals(2),
