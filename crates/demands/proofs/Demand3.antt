@@ -48,17 +48,17 @@ number-bit true = omega arith
 number-bit false = omega arith
 
 module _ (N : ℕ) (k : Keys) (choices challenges bits : List ℕ) (c : SignedOn N k choices challenges bits) (j : ℕ) (l : j < N) where
-  abbrev challenge : ℕ
+  abbrev pub challenge : ℕ
   challenge = getD (restOf Challenges challenges) j 0
 
-  abbrev bit : Bool
+  abbrev pub bit : Bool
   bit = bitAt (restOf Bits bits) j
 
-  abbrev chosen : Pair
+  abbrev pub chosen : Pair
   chosen = pairAt (placesOf k) choices j
 
   -- the partner of the round's choices, vector and then permutation
-  abbrev partner : Pair
+  abbrev pub partner : Pair
   partner = there (matrixOf k) (publicOf k) (secretOf k) challenge bit chosen
 
   facts : LentFits k N choices

@@ -1,26 +1,39 @@
--- The hypotheses of demand 2 are met: 20 rounds of the small system of document 01. Refusals are computed, the hash is not.
+-- The hypotheses of the demands' theorems are met: 20 rounds of the small system of document 01. Refusals are computed; of the hash one digest.
 use mathlib.Core.Path.{_≡_, refl}
+use mathlib.Core.Bool.{true, false}
 use mathlib.Core.List.{List, [], _∷_, _++_}
 use Prim.Native.Nat.{ℕ, zero, suc}
+use native.Mathlib.Nat.{not-suc-le-zero}
+use native.Mathlib.Omega.{arith}
 use lib.ListN.{length, replicate, length-replicate}
 use Rattle.refusals.specs.Told.{done, fine, firstBelow}
 use Rattle.algebra.specs.Lists.{tab, sumBelow, allBelow, firstFrom, count, stretch, over}
 use Rattle.algebra.specs.Permutations.{isPerm, permute}
-use Rattle.algebra.specs.Matrices.{rowTimes, keyFault}
+use Rattle.algebra.specs.Matrices.{rowTimes, entry, productAt, keyFault}
+use Rattle.sha256.specs.Standard.{H0, K, T1, T2, W, _⊞_, Ch, Maj, ROTR, blockAt, blockCount, bytes, bytesOf, bytesOfWords, compressOf, digestOf, expandOf, hashValue, pad, padding, sumOf, turnOf, turnsOf, wordAt, wordOf, zeros, Σ0, Σ1, σ0, σ1}
 use Rattle.frames.specs.declared.kind.Kind.the-variants.{Commitments, Challenges, Answers, Openings}
 use Rattle.frames.specs.declared.write.Written.the-variants.{Wrote}
 use Rattle.frames.specs.PackedBits.{bitAt, unusedClear}
 use Rattle.frames.specs.Reading.{header, shape, values, permutations, reading, restOf}
 use Rattle.frames.specs.Writing.{frame}
 use Rattle.frames.specs.Choosing.{vectorOf, permutationOf, choiceCheck, choicesCheck}
+use Rattle.round.specs.Round.{calledFor, sameBytes, passes}
+use Rattle.round.specs.Pairing.{Pairing}
+use Rattle.rounds.specs.Layout.{half, openedAt}
+use Rattle.rounds.specs.Rounds.{passesAt}
 use Rattle.card_checks.specs.declared.session.Session.{Session}
-use Rattle.card_checks.specs.Keys.{Keys, keys, keysCheck, validCheck}
+use Rattle.card_checks.specs.Keys.{Keys, keys, publicOf, secretOf, keysCheck, validCheck}
+use Rattle.card_checks.specs.Lent.{matrixOf}
 use Rattle.card_checks.specs.Asking.{atRest, recordFits, keptFit, restCheck, beginCheck, answerCheck, openCheck}
 use Rattle.card_checks.proofs.Facts.{open-told}
 use Rattle.card.specs.Steps.{beginTold, begun, commitmentsOf, answerTold, answered, answersOf, openRefusal, openTold, closed, openingsOf, zeroed, fresh}
 use Rattle.card.proofs.Opening.{open-ready, own-fine}
-use Rattle.register.specs.Verdict.{enough, judging}
-use Rattle.demands.proofs.Demand2.{SignedOn, sentBy, honest-card-accepted}
+use Rattle.stand_in.specs.Standing.{standInOf}
+use Rattle.register.specs.Verdict.{SignOn, signOn, basisCheck, exchangeCheck, framesCheck, enough, messagesIn, judging}
+use Rattle.register.proofs.Facts.{frames-told}
+use Rattle.register.proofs.Exact.{Accepts, Fails, accepted→}
+use Rattle.demands.proofs.Demand2.{SignedOn, sentBy, lent, honest-card-accepted}
+use Rattle.demands.proofs.Demand3.{choices-pair-off, partner, same-round}
 
 abbrev pub N : ℕ
 N = 20
@@ -97,3 +110,49 @@ signed =
 pub small-card-accepted : judging 1 (sentBy N small choices challenges bits signed) ≡ done (N ∷ [])
 unfolding enough
 small-card-accepted = honest-card-accepted N small choices challenges bits signed 1 refl
+
+-- ---- of demand 3: round 0 of it, of challenge 7 and bit 1, and its partner
+
+pub small-choices-pair-off : Pairing (matrixOf small) (publicOf small) (secretOf small) 7 true
+small-choices-pair-off = choices-pair-off small N choices (lent N small choices challenges bits signed) 7 (omega arith) true
+
+pub small-round-paired : openedAt 3 (messagesIn (sentBy N small choices challenges bits signed)) 0
+    ≡ standInOf 7 1 (small .system) (small .public) (partner N small choices challenges bits signed 0 (omega arith) .vector ++ partner N small choices challenges bits signed 0 (omega arith) .permutation)
+unfolding bitAt
+small-round-paired = same-round N small choices challenges bits signed 0 (omega arith)
+
+-- ---- of the exact verdict: accepted, and refused at round 0, where the commitments are zeros
+
+pub small-accepts : Accepts 1 (sentBy N small choices challenges bits signed)
+small-accepts = accepted→ 1 (sentBy N small choices challenges bits signed) (N ∷ []) small-card-accepted .1
+
+-- W for challenge 7, and σ
+abbrev answered-by-hand : ℕ → List ℕ
+answered-by-hand zero = []
+answered-by-hand (suc n) = (41 ∷ 45 ∷ 204 ∷ []) ++ answered-by-hand n
+
+abbrev opened-by-hand : ℕ → List ℕ
+opened-by-hand zero = []
+opened-by-hand (suc n) = (1 ∷ 0 ∷ 2 ∷ []) ++ opened-by-hand n
+
+abbrev pub zero-commitments : SignOn
+zero-commitments =
+    signOn (small .system) (small .public) (5 ∷ 3 ∷ 1 ∷ 4 ∷ N ∷ replicate 1280 0) challenges (0 ∷ 64 ∷ 1 ∷ 6 ∷ 3 ∷ N ∷ answered-by-hand N)
+    (0 ∷ 6 ∷ 1 ∷ 7 ∷ N ∷ 0 ∷ 0 ∷ 0 ∷ []) (0 ∷ 64 ∷ 1 ∷ 8 ∷ 3 ∷ N ∷ opened-by-hand N)
+
+zero-commitments-read : framesCheck zero-commitments ≡ fine
+unfolding framesCheck basisCheck exchangeCheck reading header shape values permutations firstBelow isPerm allBelow count stretch bitAt unusedClear
+zero-commitments-read = refl
+
+-- the hash of σ and A_σ W is not 32 zeros
+pub small-fails : Fails 1 zero-commitments false 0
+unfolding enough passesAt openedAt half passes calledFor productAt entry stretch sumBelow tab sameBytes bitAt H0 K T1 T2 W _⊞_ Ch Maj ROTR blockAt blockCount bytes bytesOf bytesOfWords compressOf digestOf expandOf hashValue pad padding sumOf turnOf turnsOf wordAt wordOf zeros Σ0 Σ1 σ0 σ1
+small-fails =
+    record {
+      frames = frames-told zero-commitments [] zero-commitments-read;
+      suffices = refl;
+      below = omega arith;
+      before = λ k l. absurd (not-suc-le-zero l);
+      here = refl;
+      asked = refl;
+    }
