@@ -10,7 +10,7 @@ use Rattle.refusals.specs.Told.{done, refused, fine}
 use Rattle.refusals.proofs.Chain.{first-done}
 use Rattle.frames.specs.declared.kind.Kind.the-variants.{System, Public, Secret, Bits}
 use Rattle.frames.specs.Reading.{restOf}
-use Rattle.frames.proofs.Orders.{rest-part}
+use Rattle.frames.proofs.Orders.{from, rest-part}
 use Rattle.round.specs.Round.{systemOf}
 use Rattle.card_checks.specs.declared.session.Session.{Session}
 use Rattle.card_checks.specs.Keys.{Keys, placesOf, rowsOf, publicOf, secretOf}
@@ -20,7 +20,7 @@ use Rattle.card_checks.proofs.Facts.{OpenFits, open-told}
 use Rattle.card.specs.Own.{ownFailing}
 use Rattle.card.specs.Steps.{faultyRound, OpenReady, ownCheck, openRefusal}
 use Rattle.card.proofs.Own.{own-never-fails}
-use Rattle.card.proofs.Parts.{from, bits-sent}
+use Rattle.card.proofs.Parts.{bits-sent}
 
 module _ (s : Session) (k : Keys) (message choices : List ℕ) where
   -- ---- past the checks

@@ -3,7 +3,7 @@ use mathlib.Core.Path.{_≡_, refl, ap, _∙_}
 use mathlib.Core.List.{List}
 use Prim.Native.Nat.{ℕ, _+_, _-_, _*_, _≤_}
 use native.Mathlib.Omega.{arith}
-use lib.ListN.{length, take, drop}
+use lib.ListN.{length}
 use borrow.Rule.Slice.PartMut.{putMid, midOf}
 use Rattle.algebra.specs.Lists.{joined, over, overAt}
 use Rattle.algebra.specs.Residues.{modulus}
@@ -16,7 +16,7 @@ use Rattle.frames.specs.Reading.{restOf}
 use Rattle.frames.specs.Choosing.{choiceSize}
 use Rattle.frames.specs.Writing.{heading, frame}
 use Rattle.frames.proofs.Facts.{rest-length, FrameFits, first-asked}
-use Rattle.frames.proofs.Orders.{rest-part}
+use Rattle.frames.proofs.Orders.{from, rest-part}
 use Rattle.frames.proofs.Writing.{framed}
 use Rattle.round.specs.Round.{systemOf}
 use Rattle.rounds.specs.Layout.{CardFits}
@@ -53,9 +53,6 @@ card-fits k N choices v h e =
     }
 
 -- ---- the values lent, as the code cuts them
-
-abbrev pub from : ℕ → List ℕ → List ℕ
-from start s = take (length s - start) (drop start s)
 
 module _ (k : Keys) (N : ℕ) (choices : List ℕ) (h : LentFits k N choices) (n m : ℕ) (p : n ≡ placesOf k) (q : m ≡ rowsOf k) where
   pub system-part : SystemFits (from 6 (k .system)) n m

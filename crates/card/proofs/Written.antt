@@ -22,7 +22,7 @@ use Rattle.card.proofs.ReadBack.{ReadBack, commitments-read, answers-re
 
 -- ---- begin
 
-pub record Begun (s : Session) (N : ℕ) (k : Keys) (choices out : List ℕ) (next : Session) (after : List ℕ) (bytes : ℕ) : Type 0 where
+pub record BeginWrote (s : Session) (N : ℕ) (k : Keys) (choices out : List ℕ) (next : Session) (after : List ℕ) (bytes : ℕ) : Type 0 where
   pub found : BeginFits s N k choices (length out)
   pub size : bytes ≡ commitmentsSize N
   pub kept : next ≡ begun N k
@@ -31,7 +31,7 @@ pub record Begun (s : Session) (N : ℕ) (k : Keys) (choices out : List ℕ) (ne
   pub reads : ReadBack Commitments N 0 (commitmentsOf N k choices)
 
 module _ (s : Session) (N : ℕ) (k : Keys) (choices out : List ℕ) (step : Step) (after : List ℕ) (bytes : ℕ) where
-  pub begin-wrote : BeginStep s N k choices out step after → step .told ≡ Wrote bytes → Begun s N k choices out (step .next) after bytes
+  pub begin-wrote : BeginStep s N k choices out step after → step .told ≡ Wrote bytes → BeginWrote s N k choices out (step .next) after bytes
   unfolding beginTold begun
   begin-wrote p e =
       let t = first-done (beginCheck s N k choices (length out)) (done (commitmentsSize N ∷ [])) (bytes ∷ []) (sym (p .says) ∙ ap writtenMeans e) in
@@ -47,7 +47,7 @@ module _ (s : Session) (N : ℕ) (k : Keys) (choices out : List ℕ) (step : Ste
 
 -- ---- answer
 
-pub record Answered (s : Session) (k : Keys) (message choices out : List ℕ) (next : Session) (after : List ℕ) (bytes : ℕ) : Type 0 where
+pub record AnswerWrote (s : Session) (k : Keys) (message choices out : List ℕ) (next : Session) (after : List ℕ) (bytes : ℕ) : Type 0 where
   pub found : AnswerFits s k message choices (length out)
   pub size : bytes ≡ answersSize (placesOf k) (s .rounds)
   pub kept : next ≡ answered s (restOf Challenges message)
@@ -57,7 +57,7 @@ pub record Answered (s : Session) (k : Keys) (message choices out : List ℕ) (n
 
 -- ---- open
 
-pub record Opened (s : Session) (k : Keys) (message choices out : List ℕ) (next : Session) (left after : List ℕ) (bytes : ℕ) : Type 0 where
+pub record OpenWrote (s : Session) (k : Keys) (message choices out : List ℕ) (next : Session) (left after : List ℕ) (bytes : ℕ) : Type 0 where
   pub found : OpenFits s k message choices (length out)
   pub size : bytes ≡ openingsSize (placesOf k) (s .rounds)
   pub kept : next ≡ closed s
@@ -66,7 +66,7 @@ pub record Opened (s : Session) (k : Keys) (message choices out : List ℕ) (nex
   pub reads : ReadBack Openings (placesOf k) (s .rounds) (openingsOf (s .rounds) k message choices)
 
 module _ (s : Session) (k : Keys) (message choices out : List ℕ) (step : Step) (after : List ℕ) (bytes : ℕ) (e : step .told ≡ Wrote bytes) where
-  pub answer-wrote : AnswerStep s k message choices out step after → Answered s k message choices out (step .next) after bytes
+  pub answer-wrote : AnswerStep s k message choices out step after → AnswerWrote s k message choices out (step .next) after bytes
   unfolding answerTold answered
   answer-wrote p =
       let n = placesOf k in
@@ -82,7 +82,7 @@ module _ (s : Session) (k : Keys) (message choices out : List ℕ) (step : Step)
         reads = answers-read k N choices (f .lent) message;
       }
 
-  pub open-wrote : (left : List ℕ) → OpenStep s k message choices out step left after → Opened s k message choices out (step .next) left after bytes
+  pub open-wrote : (left : List ℕ) → OpenStep s k message choices out step left after → OpenWrote s k message choices out (step .next) left after bytes
   unfolding openTold
   open-wrote left p =
       let n = placesOf k in

@@ -2,11 +2,11 @@
 use mathlib.Core.Path.{_≡_, refl, sym, _∙_, subst}
 use mathlib.Core.Bool.{true}
 use mathlib.Core.List.{List}
-use Prim.Native.Nat.{ℕ, _-_, _≤_, _<_}
+use Prim.Native.Nat.{ℕ, _≤_, _<_}
 use native.Mathlib.Omega.{arith}
 use borrow.Author.Tests.{eqb-true, leb-true}
 use lib.Dec.{eqb, leb}
-use lib.ListN.{length, getD, take, drop}
+use lib.ListN.{length, getD}
 use Rattle.refusals.specs.Number.{KEY, ROOM, SHAPE, STAGE}
 use Rattle.refusals.specs.Buffer.{SECRET, OUTPUT, NONE}
 use Rattle.refusals.specs.Told.{Told, done, fine, first, demand}
@@ -21,7 +21,7 @@ use Rattle.frames.specs.Kinds.{within, alone, ofPlaces, exactly}
 use Rattle.frames.specs.Reading.{firstOf, reading}
 use Rattle.frames.specs.Choosing.{choiceSize, choicesCheck}
 use Rattle.frames.proofs.Facts.{test-holds, rest-done, within-told, rest-length, FrameFits, reading-told, first-asked}
-use Rattle.frames.proofs.Orders.{rest-part}
+use Rattle.frames.proofs.Orders.{from, rest-part}
 use Rattle.frames.proofs.Passing.{system-fits}
 use Rattle.frames.proofs.Chosen.{values-told, permutation-told, choices-told}
 use Rattle.round.specs.Round.{ValidKey}
@@ -89,9 +89,6 @@ valid-told k v f e =
     }
 
 -- ---- the values lent, as the code cuts them
-
-abbrev from : ℕ → List ℕ → List ℕ
-from start s = take (length s - start) (drop start s)
 
 module _ (k : Keys) (n m : ℕ) (p : n ≡ placesOf k) (q : m ≡ rowsOf k) where
   pub parts-fit : KeysFit k → SystemFits (from 6 (k .system)) n m

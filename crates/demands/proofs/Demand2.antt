@@ -30,8 +30,8 @@ use Rattle.card_checks.specs.Lent.{matrixOf, LentFits}
 use Rattle.card.specs.declared.Step.{Step}
 use Rattle.card.specs.Steps.{commitmentsOf, BeginStep, answersOf, AnswerStep, openingsOf, OpenStep}
 use Rattle.card.proofs.ReadBack.{ReadBack, honest-messages}
-use Rattle.card.proofs.Written.{Begun, begin-wrote, Answered, answer-wrote, Opened, open-wrote}
-use Rattle.register.specs.Verdict.{SignOn, signOn, roundsOf, enough, messagesIn, roundPasses, judging}
+use Rattle.card.proofs.Written.{BeginWrote, begin-wrote, AnswerWrote, answer-wrote, OpenWrote, open-wrote}
+use Rattle.register.specs.Verdict.{SignOn, signOn, roundsIn, enough, messagesIn, roundPasses, judging}
 use Rattle.register.proofs.Facts.{ExchangeFits, FramesFit}
 use Rattle.register.proofs.Exact.{accepted←}
 
@@ -79,13 +79,13 @@ module _ (N : ℕ) (k : Keys) (choices challenges bits : List ℕ) (c : SignedOn
   abbrev n : ℕ
   n = placesOf k
 
-  pub begun-facts : Begun (c .record₀) N k choices (c .out₁) (c .begin .next) (c .commitments) (c .bytes₁)
+  pub begun-facts : BeginWrote (c .record₀) N k choices (c .out₁) (c .begin .next) (c .commitments) (c .bytes₁)
   begun-facts = begin-wrote (c .record₀) N k choices (c .out₁) (c .begin) (c .commitments) (c .bytes₁) (c .begins) (c .begin-told)
 
-  answered-facts : Answered (c .begin .next) k challenges choices (c .out₂) (c .answer .next) (c .answers) (c .bytes₂)
+  answered-facts : AnswerWrote (c .begin .next) k challenges choices (c .out₂) (c .answer .next) (c .answers) (c .bytes₂)
   answered-facts = answer-wrote (c .begin .next) k challenges choices (c .out₂) (c .answer) (c .answers) (c .bytes₂) (c .answer-told) (c .answering)
 
-  opened-facts : Opened (c .answer .next) k bits choices (c .out₃) (c .open′ .next) (c .left) (c .openings) (c .bytes₃)
+  opened-facts : OpenWrote (c .answer .next) k bits choices (c .out₃) (c .open′ .next) (c .left) (c .openings) (c .bytes₃)
   opened-facts = open-wrote (c .answer .next) k bits choices (c .out₃) (c .open′) (c .openings) (c .bytes₃) (c .open-told) (c .left) (c .opens)
 
   -- the record keeps N
@@ -132,7 +132,7 @@ module _ (N : ℕ) (k : Keys) (choices challenges bits : List ℕ) (c : SignedOn
   sent = signOn (k .system) (k .public) commitments-frame challenges answers-frame bits openings-frame
 
   -- N is that of the commitments
-  rounds-sent : roundsOf sent ≡ N
+  rounds-sent : roundsIn sent ≡ N
   unfolding sent commitments-frame
   rounds-sent = begun-facts .reads .spells .one
 

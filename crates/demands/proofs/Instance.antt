@@ -10,7 +10,7 @@ use Rattle.refusals.specs.Told.{done, fine, firstBelow}
 use Rattle.algebra.specs.Lists.{tab, sumBelow, allBelow, firstFrom, count, stretch, over}
 use Rattle.algebra.specs.Permutations.{isPerm, permute}
 use Rattle.algebra.specs.Matrices.{rowTimes, entry, productAt, keyFault}
-use Rattle.sha256.specs.Standard.{H0, K, T1, T2, W, _⊞_, Ch, Maj, ROTR, blockAt, blockCount, bytes, bytesOf, bytesOfWords, compressOf, digestOf, expandOf, hashValue, pad, padding, sumOf, turnOf, turnsOf, wordAt, wordOf, zeros, Σ0, Σ1, σ0, σ1}
+use Rattle.sha256.specs.Standard.{H0, K, T1, T2, W, Ch, Maj, ROTR, blockAt, blockCount, bytes, bytesOf, bytesOfWords, compressOf, digestOf, expandOf, hashValue, pad, padding, sumOf, turnOf, turnsOf, wordAt, wordOf, zeros, _⊞_, Σ0, Σ1, σ0, σ1}
 use Rattle.frames.specs.declared.kind.Kind.the-variants.{Commitments, Challenges, Answers, Openings}
 use Rattle.frames.specs.declared.write.Written.the-variants.{Wrote}
 use Rattle.frames.specs.PackedBits.{bitAt, unusedClear}

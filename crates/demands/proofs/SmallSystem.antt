@@ -17,7 +17,7 @@ use Rattle.frames.specs.PackedBits.{bitAt}
 use Rattle.frames.specs.Clearing.{cleared}
 use Rattle.frames.specs.Reading.{header, shape, values, permutations, reading, restOf}
 use Rattle.frames.specs.Writing.{frame}
-use Rattle.draw.specs.Sequences.{listOf, times, oneBelow}
+use Rattle.draw.specs.Sequences.{listOf, manyTimes, oneBelow}
 use Rattle.draw.specs.Making.{drawChallenges, drawBits}
 use Rattle.draw.specs.Telling.{bare, telling}
 use Rattle.round.specs.Round.{pair, firstAnswer}
@@ -106,5 +106,5 @@ all f [] = []
 all f (r ∷ rows) = f r ∷ all f rows
 
 pub rows-agree : all (λ (r : Row). r .computed) table ≡ all (λ (r : Row). r .expected) table
-unfolding product productAt rowTimes entry addScaled zipWith permute stretch sumBelow tab firstAnswer telling drawPermutation shuffle exchange identity drawBelow drawLeft drawChallenges drawBits times oneBelow frame cleared bitAt keyCheck keysCheck validCheck keyFault firstFrom reading header shape values permutations firstBelow isPerm allBelow count
+unfolding product productAt rowTimes entry addScaled zipWith permute stretch sumBelow tab firstAnswer telling drawPermutation shuffle exchange identity drawBelow drawLeft drawChallenges drawBits manyTimes oneBelow frame cleared bitAt keyCheck keysCheck validCheck keyFault firstFrom reading header shape values permutations firstBelow isPerm allBelow count
 rows-agree = refl

@@ -16,7 +16,7 @@ use Rattle.algebra.specs.Solving.{completed}
 use Rattle.algebra.specs.Drawings.{drawLeft, drawBelow, drew, ranOut, exchange, shuffle, drawPermutation}
 use Rattle.frames.specs.Clearing.{cleared}
 use Rattle.frames.specs.Writing.{frame}
-use Rattle.draw.specs.Sequences.{times, oneBelow, drawResidues}
+use Rattle.draw.specs.Sequences.{manyTimes, oneBelow, drawResidues}
 use Rattle.draw.specs.Making.{drawChallenges, drawBits, drawChoice, drawChoices, publicKey, keyFrames, drawPair, drawKey}
 use Rattle.draw.specs.Telling.{bare, choicesFit, keySize, telling}
 
@@ -24,19 +24,19 @@ use Rattle.draw.specs.Telling.{bare, choicesFit, keySize, telling}
 challenges : (drawResidues 2 (255 ∷ 7 ∷ 251 ∷ 250 ∷ 9 ∷ []) 0 ≡ drew (7 ∷ 250 ∷ []) 4)
     × (drawChallenges 2 (255 ∷ 7 ∷ 251 ∷ 250 ∷ 9 ∷ []) ≡ drew (0 ∷ 5 ∷ 1 ∷ 5 ∷ 2 ∷ 7 ∷ 250 ∷ []) 4)
     × (drawChallenges 2 (255 ∷ 7 ∷ 251 ∷ []) ≡ ranOut)
-unfolding drawChallenges times oneBelow drawBelow drawLeft frame
+unfolding drawChallenges manyTimes oneBelow drawBelow drawLeft frame
 challenges = (refl, refl, refl)
 
 -- 11 bits take two bytes, whatever they are
 bits : (drawBits 11 (181 ∷ 255 ∷ 9 ∷ []) ≡ drew (0 ∷ 5 ∷ 1 ∷ 7 ∷ 11 ∷ 181 ∷ 224 ∷ []) 2)
     × (drawBits 11 (181 ∷ []) ≡ ranOut)
-unfolding drawBits times oneBelow drawBelow drawLeft frame cleared
+unfolding drawBits manyTimes oneBelow drawBelow drawLeft frame cleared
 bits = (refl, refl)
 
 -- two rounds of n = 2: R = (9, 250), then 6 is even and exchanges; R = (3, 4) past a skipped 255, then 7 is odd
 choices : (drawChoices 2 2 (9 ∷ 250 ∷ 6 ∷ 255 ∷ 3 ∷ 4 ∷ 7 ∷ []) ≡ drew (9 ∷ 250 ∷ 1 ∷ 0 ∷ 3 ∷ 4 ∷ 0 ∷ 1 ∷ []) 7)
     × (drawChoices 2 2 (9 ∷ 250 ∷ 6 ∷ 255 ∷ 3 ∷ 4 ∷ []) ≡ ranOut)
-unfolding drawChoices drawChoice times oneBelow drawBelow drawLeft drawPermutation shuffle exchange identity tab
+unfolding drawChoices drawChoice manyTimes oneBelow drawBelow drawLeft drawPermutation shuffle exchange identity tab
 choices = (refl, refl)
 
 -- n = 4, m = 2, A' of the rows (1, 2) and (3, 4): π = (0, 3, 1, 2), and X = (5, 6, -17, -39)
@@ -47,7 +47,7 @@ key : (drawKey entries 4 2 (6 ∷ 255 ∷ 4 ∷ 7 ∷ 5 ∷ 6 ∷ 1 ∷ [])
     ≡ drew ((0 ∷ 7 ∷ 1 ∷ 2 ∷ 4 ∷ 5 ∷ 234 ∷ 212 ∷ 6 ∷ []) ++ (0 ∷ 7 ∷ 1 ∷ 3 ∷ 4 ∷ 0 ∷ 3 ∷ 1 ∷ 2 ∷ [])) 6)
     × (drawKey entries 4 2 (6 ∷ 255 ∷ 4 ∷ 7 ∷ 5 ∷ []) ≡ ranOut)
     × (drawKey entries 4 2 (6 ∷ 255 ∷ []) ≡ ranOut)
-unfolding drawKey drawPair keyFrames publicKey completed rowTimes stretch sumBelow negative permute inverse placeOf times oneBelow drawBelow drawLeft drawPermutation shuffle exchange identity tab frame
+unfolding drawKey drawPair keyFrames publicKey completed rowTimes stretch sumBelow negative permute inverse placeOf manyTimes oneBelow drawBelow drawLeft drawPermutation shuffle exchange identity tab frame
 key = (refl, refl, refl)
 
 -- the system of this key fits, so that `key-drawn` holds of it

@@ -49,24 +49,24 @@ choices-fit-told greatest n N t = (
 -- ---- a key
 
 -- π and the start of X
-pub record Pair (n m : ℕ) (l : List ℕ) : Type 0 where
+pub record DrawnPair (n m : ℕ) (l : List ℕ) : Type 0 where
   pub perm : IsPerm n (take n l)
   pub len : length (drop n l) ≡ n - m
   pub residues : Residues modulus (drop n l)
 
-pub pair-drawn : (n m : ℕ) (random : List ℕ) → 0 < n → Always (Pair n m) (drawPair n m random)
+pub pair-drawn : (n m : ℕ) (random : List ℕ) → 0 < n → Always (DrawnPair n m) (drawPair n m random)
 unfolding drawPair
 pair-drawn n m random pos = step (drawPermutation n random 0) (drawn-perm n random 0 pos)
   where
     join : (π : List ℕ) (d : Drawing) → IsPerm n π → Always (λ (l : List ℕ). (length l ≡ n - m) × Residues modulus l) d
-        → Always (Pair n m) (made (λ (s : List ℕ). π ++ s) d)
+        → Always (DrawnPair n m) (made (λ (s : List ℕ). π ++ s) d)
     join π (drew s q) h (e, r) =
         let a = take-at π s n (h .len) in
         let b = drop-at π s n (h .len) in
         record { perm = rw a h; len = rw b e; residues = rw b r }
     join π ranOut h r = tt
 
-    step : (d : Drawing) → Permutes n d → Always (Pair n m) (andThen d (drawResidues (n - m) random))
+    step : (d : Drawing) → Permutes n d → Always (DrawnPair n m) (andThen d (drawResidues (n - m) random))
     step (drew π p) h = join π (drawResidues (n - m) random p) h (some-below modulus random (n - m) p)
     step ranOut h = tt
 

@@ -17,7 +17,7 @@ use Rattle.algebra.specs.Residues.{Residues}
 use Rattle.algebra.specs.Drawings.{drawBelow, Drawing, drew, ranOut, with, usedBy, drawnOver, Enough}
 use Rattle.algebra.proofs.Lists.{part-stretch, stretch-fits, part-over, over-behind}
 use Rattle.algebra.proofs.Fair.{drawn-below}
-use Rattle.draw.specs.Sequences.{listOf, made, andThen, times, oneBelow, someBelow}
+use Rattle.draw.specs.Sequences.{listOf, made, andThen, manyTimes, oneBelow, someBelow}
 
 -- ---- what a place used says of the drawing
 
@@ -72,39 +72,39 @@ behind l m d out part a k e f g h r =
 -- ---- n times the same: j of them drawn so far
 
 module _ (next : ℕ → Drawing) (at : ℕ) where
-  pub times-none : times 0 next at ≡ drew [] at
-  unfolding times
+  pub times-none : manyTimes 0 next at ≡ drew [] at
+  unfolding manyTimes
   times-none = refl
 
-  pub times-more : (j : ℕ) → times (j + 1) next at ≡ andThen (times j next at) next
-  unfolding times
-  times-more j = ap (λ (k : ℕ). times k next at) (add-one j)
+  pub times-more : (j : ℕ) → manyTimes (j + 1) next at ≡ andThen (manyTimes j next at) next
+  unfolding manyTimes
+  times-more j = ap (λ (k : ℕ). manyTimes k next at) (add-one j)
 
   -- what ran out stays so
-  times-short : (n j : ℕ) → j ≤ n → times j next at ≡ ranOut → times n next at ≡ ranOut
-  unfolding times
-  times-short zero j l e = let z : j ≡ 0 = omega arith in ap (λ (k : ℕ). times k next at) (sym z) ∙ e
+  times-short : (n j : ℕ) → j ≤ n → manyTimes j next at ≡ ranOut → manyTimes n next at ≡ ranOut
+  unfolding manyTimes
+  times-short zero j l e = let z : j ≡ 0 = omega arith in ap (λ (k : ℕ). manyTimes k next at) (sym z) ∙ e
   times-short (suc n) j l e = step (ℕ-discrete j (suc n)) (λ h. times-short n j h e)
     where
-      step : Dec (j ≡ suc n) → (j ≤ n → times n next at ≡ ranOut) → times (suc n) next at ≡ ranOut
-      step (yes q) ih = ap (λ (k : ℕ). times k next at) (sym q) ∙ e
+      step : Dec (j ≡ suc n) → (j ≤ n → manyTimes n next at ≡ ranOut) → manyTimes (suc n) next at ≡ ranOut
+      step (yes q) ih = ap (λ (k : ℕ). manyTimes k next at) (sym q) ∙ e
       step (no q) ih = ap (λ (d : Drawing). andThen d next) (ih (omega arith))
 
   -- one runs out, and so the whole does
-  pub times-ends : (n j p : ℕ) → j < n → To p ≡ usedBy (times j next at) → NoneLeft ≡ usedBy (next p) → times n next at ≡ ranOut
+  pub times-ends : (n j p : ℕ) → j < n → To p ≡ usedBy (manyTimes j next at) → NoneLeft ≡ usedBy (next p) → manyTimes n next at ≡ ranOut
   times-ends n j p l e f =
       times-short n (j + 1) (omega arith)
-      (ran-out-of (times (j + 1) next at) (f ∙ then-used (times j next at) next p e ∙ ap usedBy (sym (times-more j))))
+      (ran-out-of (manyTimes (j + 1) next at) (f ∙ then-used (manyTimes j next at) next p e ∙ ap usedBy (sym (times-more j))))
 
   -- a loop that measures
-  pub measured-more : (j p q : ℕ) → To p ≡ usedBy (times j next at) → To q ≡ usedBy (next p) → To q ≡ usedBy (times (j + 1) next at)
-  measured-more j p q e f = f ∙ then-used (times j next at) next p e ∙ ap usedBy (sym (times-more j))
+  pub measured-more : (j p q : ℕ) → To p ≡ usedBy (manyTimes j next at) → To q ≡ usedBy (next p) → To q ≡ usedBy (manyTimes (j + 1) next at)
+  measured-more j p q e f = f ∙ then-used (manyTimes j next at) next p e ∙ ap usedBy (sym (times-more j))
 
 -- ---- a loop that writes: j are over the front of d
 
 pub record Written (next : ℕ → Drawing) (at : ℕ) (d out : List ℕ) (j p : ℕ) : Type 0 where
   pub list : List ℕ
-  pub drawn : times j next at ≡ drew list p
+  pub drawn : manyTimes j next at ≡ drew list p
   pub size : length out ≡ length d
   pub now : out ≡ over list d
 
@@ -124,16 +124,16 @@ module _ (next : ℕ → Drawing) (at : ℕ) (d out : List ℕ) (j p : ℕ) (w :
       }
 
   -- where the whole has enough, so has the next
-  pub written-enough : (n : ℕ) → j < n → Enough (times n next at) → Enough (next p)
+  pub written-enough : (n : ℕ) → j < n → Enough (manyTimes n next at) → Enough (next p)
   written-enough n l h = step (next p) refl
     where
       step : (m : Drawing) → next p ≡ m → Enough m
       step (drew x q) e = tt
       step ranOut e = absurd (subst Enough (times-ends next at n j p l (sym (ap usedBy (w .drawn))) (sym (ap usedBy e))) h)
 
-  pub written-all : (n : ℕ) → j ≡ n → (To p ≡ usedBy (times n next at)) × (out ≡ drawnOver (times n next at) d)
+  pub written-all : (n : ℕ) → j ≡ n → (To p ≡ usedBy (manyTimes n next at)) × (out ≡ drawnOver (manyTimes n next at) d)
   written-all n e =
-      let q : times n next at ≡ drew (w .list) p = ap (λ (k : ℕ). times k next at) (sym e) ∙ w .drawn in
+      let q : manyTimes n next at ≡ drew (w .list) p = ap (λ (k : ℕ). manyTimes k next at) (sym e) ∙ w .drawn in
       (sym (ap usedBy q), w .now ∙ sym (ap (λ (z : Drawing). drawnOver z d) q))
 
 -- ---- what holds of each list drawn
@@ -184,10 +184,10 @@ module _ (P : List ℕ → Type 0) (size : ℕ) where
           rw c (s .each k (omega arith))
 
   pub times-each : (next : ℕ → Drawing) → ((p : ℕ) → Always (λ (l : List ℕ). (length l ≡ size) × P l) (next p)) → (n at : ℕ)
-      → Always (Stretches P size n) (times n next at)
-  unfolding times
+      → Always (Stretches P size n) (manyTimes n next at)
+  unfolding manyTimes
   times-each next h zero at = record { len = sym (zero-mul size); each = λ k i. absurd (not-suc-le-zero i) }
-  times-each next h (suc n) at = step (times n next at) (times-each next h n at)
+  times-each next h (suc n) at = step (manyTimes n next at) (times-each next h n at)
     where
       join : (l : List ℕ) (m : Drawing) → Stretches P size n l → Always (λ (z : List ℕ). (length z ≡ size) × P z) m
           → Always (Stretches P size (suc n)) (made (λ (z : List ℕ). l ++ z) m)

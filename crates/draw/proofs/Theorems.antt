@@ -32,10 +32,10 @@ use Rattle.frames.proofs.Clearing.{length-cleared, cleared-keeps, cleared-clear
 use Rattle.frames.proofs.Passing.{residues-pass, permutation-passes, Chosen, choices-pass}
 use Rattle.frames.proofs.Spelling.{frame-spells, written-read}
 use Rattle.frames.proofs.Writing.{Plain}
-use Rattle.draw.specs.Sequences.{made, andThen, someBelow, byteLimit, drawResidues, oneBelow, times}
+use Rattle.draw.specs.Sequences.{made, andThen, someBelow, byteLimit, drawResidues, oneBelow, manyTimes}
 use Rattle.draw.specs.Making.{drawChallenges, drawBits, drawChoice, drawChoices, publicKey, keyFrames, drawPair, drawKey}
 use Rattle.draw.proofs.Sequences.{Always, Stretches, times-each, one-got, some-below}
-use Rattle.draw.proofs.Making.{choice-chosen, place-fits, Pair, pair-drawn, length-publicKey}
+use Rattle.draw.proofs.Making.{choice-chosen, place-fits, DrawnPair, pair-drawn, length-publicKey}
 
 -- ---- residues and permutations
 
@@ -115,7 +115,7 @@ bits-drawn N random s next t e =
 
 -- bytes are never skipped: the first n are drawn as they come
 pub bytes-drawn : (random : List ℕ) → Bytes random → (n : ℕ) → n ≤ length random → someBelow byteLimit n random 0 ≡ drew (take n random) n
-unfolding times
+unfolding manyTimes
 bytes-drawn random b zero h = refl
 bytes-drawn random b (suc n) h =
     ap (λ (d : Drawing). andThen d (oneBelow byteLimit random)) (bytes-drawn random b n (omega arith))
@@ -148,7 +148,7 @@ pub key-drawn : (a : List ℕ) (n m : ℕ) (random s : List ℕ) (next : ℕ) �
 unfolding drawKey keyFrames publicKey
 key-drawn a n m random s next f e =
     let q = source (λ (l : List ℕ). keyFrames a n m (take n l) (drop n l)) (drawPair n m random) s next e in
-    let p = subst (Always (Pair n m)) (q .drawn) (pair-drawn n m random (omega arith)) in
+    let p = subst (Always (DrawnPair n m)) (q .drawn) (pair-drawn n m random (omega arith)) in
     let π = take n (q .list) in
     let start = drop n (q .list) in
     let v = publicKey a n m π start in

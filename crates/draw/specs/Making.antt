@@ -10,7 +10,7 @@ use Rattle.frames.specs.declared.kind.Kind.the-variants.{System, Public, Secret
 use Rattle.frames.specs.Clearing.{packedSize, cleared}
 use Rattle.frames.specs.Reading.{firstOf, secondOf, restOf}
 use Rattle.frames.specs.Writing.{frame}
-use Rattle.draw.specs.Sequences.{made, andThen, times, someBelow, byteLimit, drawResidues}
+use Rattle.draw.specs.Sequences.{made, andThen, manyTimes, someBelow, byteLimit, drawResidues}
 
 -- challenges: N residues, as kind 5
 unfoldable pub drawChallenges : ℕ → List ℕ → Drawing
@@ -26,7 +26,7 @@ drawChoice n random at = andThen (drawResidues n random at) (drawPermutation n r
 
 -- choices: N rounds, with no frame
 unfoldable pub drawChoices : ℕ → ℕ → List ℕ → Drawing
-drawChoices n N random = times N (drawChoice n random) 0
+drawChoices n N random = manyTimes N (drawChoice n random) 0
 
 -- ---- a key for the matrix a of m rows and n columns
 

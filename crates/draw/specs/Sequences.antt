@@ -20,9 +20,9 @@ andThen (drew list at) next = made (λ (more : List ℕ). list ++ more) (next at
 andThen ranOut next = ranOut
 
 -- n times the same
-unfoldable pub times : ℕ → (ℕ → Drawing) → ℕ → Drawing
-times zero next at = drew [] at
-times (suc n) next at = andThen (times n next at) next
+unfoldable pub manyTimes : ℕ → (ℕ → Drawing) → ℕ → Drawing
+manyTimes zero next at = drew [] at
+manyTimes (suc n) next at = andThen (manyTimes n next at) next
 
 -- a byte below the limit
 unfoldable pub oneBelow : ℕ → List ℕ → ℕ → Drawing
@@ -30,7 +30,7 @@ oneBelow limit random at = with (drawBelow limit random at) (λ (x next : ℕ). 
 
 -- n of them
 abbrev pub someBelow : ℕ → ℕ → List ℕ → ℕ → Drawing
-someBelow limit n random at = times n (oneBelow limit random) at
+someBelow limit n random at = manyTimes n (oneBelow limit random) at
 
 -- every byte is below this
 abbrev pub byteLimit : ℕ

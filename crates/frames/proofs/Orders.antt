@@ -66,7 +66,10 @@ frame-stops b m e = ap (λ (t : Told). first t b) (sym (ap readMeans e) ∙ m)
 -- ---- SHAPE; a and b are the numbers
 
 -- the rest as the code cuts it
-pub rest-part : (k : Kind) (s : List ℕ) (start : ℕ) → start ≡ table k .start → take (length s - start) (drop start s) ≡ restOf k s
+abbrev pub from : ℕ → List ℕ → List ℕ
+from start s = take (length s - start) (drop start s)
+
+pub rest-part : (k : Kind) (s : List ℕ) (start : ℕ) → start ≡ table k .start → from start s ≡ restOf k s
 rest-part k s start e = take-all (length s - start) (drop start s) (omega (arith, length-drop start s)) ∙ ap (λ (z : ℕ). drop z s) e
 
 pub number-missing : (k : Kind) (e : Expected) (s : List ℕ) → length s < table k .start → false ≡ shape k e s
@@ -89,7 +92,7 @@ module _ (k : Kind) (e : Expected) (s : List ℕ) (a b : ℕ) (p : a ≡ firstOf
 -- ---- what was read
 
 module _ (k : Kind) (s : List ℕ) (a b start : ℕ) (p : a ≡ firstOf s) (q : b ≡ secondOf k s) (r : start ≡ table k .start) where
-  pub content-read : content k a b start (take (length s - start) (drop start s)) ≡ content k (firstOf s) (secondOf k s) (table k .start) (restOf k s)
+  pub content-read : content k a b start (from start s) ≡ content k (firstOf s) (secondOf k s) (table k .start) (restOf k s)
   content-read = ap (content k a b start) (rest-part k s start r) ∙ rw (p, q, r)
 
   pub numbers-read : done (a ∷ b ∷ start ∷ []) ≡ done (firstOf s ∷ secondOf k s ∷ table k .start ∷ [])

@@ -24,7 +24,7 @@ use Rattle.frames.proofs.Outcomes.{reading-most}
 use Rattle.rounds.proofs.Runs.{failing-found, all-pass}
 use Rattle.register.specs.declared.Verdict.{Verdict}
 use Rattle.register.specs.declared.Verdict.the-variants.{Accepted, Refused}
-use Rattle.register.specs.Verdict.{SignOn, placesOf, roundsOf, basisCheck, exchangeCheck, framesCheck, enough, systemIn, vectorIn, messagesIn, bitOf, roundPasses, roundsPassed, numberOf, roundsCheck, judging, verdictMeans, Judges}
+use Rattle.register.specs.Verdict.{SignOn, placesIn, roundsIn, basisCheck, exchangeCheck, framesCheck, enough, systemIn, vectorIn, messagesIn, bitIn, roundPasses, roundsPassed, numberOf, roundsCheck, judging, verdictMeans, Judges}
 use Rattle.register.proofs.Orders.{in-order}
 use Rattle.register.proofs.Facts.{FramesFit, frames-told}
 use Rattle.register.proofs.Outcomes.{verdict-fixes}
@@ -32,25 +32,25 @@ use Rattle.register.proofs.Outcomes.{verdict-fixes}
 -- when a sign-on is accepted
 pub record Accepts (grade : ℕ) (x : SignOn) : Type 0 where
   pub frames : FramesFit x
-  pub suffices : enough grade (roundsOf x) ≡ true
-  pub pass : (k : ℕ) → k < roundsOf x → roundPasses x k ≡ true
+  pub suffices : enough grade (roundsIn x) ≡ true
+  pub pass : (k : ℕ) → k < roundsIn x → roundPasses x k ≡ true
 
 -- when it fails at round r, which is of the bit
 pub record Fails (grade : ℕ) (x : SignOn) (bit : Bool) (r : ℕ) : Type 0 where
   pub frames : FramesFit x
-  pub suffices : enough grade (roundsOf x) ≡ true
-  pub below : r < roundsOf x
+  pub suffices : enough grade (roundsIn x) ≡ true
+  pub below : r < roundsIn x
   pub before : (k : ℕ) → k < r → roundPasses x k ≡ true
   pub here : roundPasses x r ≡ false
-  pub asked : bitOf x r ≡ bit
+  pub asked : bitIn x r ≡ bit
 
 -- ---- frames and grade
 
 frames-fine : (x : SignOn) → FramesFit x → framesCheck x ≡ fine
 unfolding framesCheck basisCheck exchangeCheck
 frames-fine x h =
-    let n = placesOf x in
-    let q = exactly (placesOf x) (roundsOf x) in
+    let n = placesIn x in
+    let q = exactly (placesIn x) (roundsIn x) in
     rw (
       fits-read System alone (x .system) (h .basis .system),
       fits-read Public (ofPlaces n) (x .key) (h .basis .key),
@@ -65,12 +65,12 @@ frames-fine x h =
 frames-most : (x : SignOn) → AtMost PERM (framesCheck x)
 unfolding framesCheck basisCheck exchangeCheck
 frames-most x =
-    let n = placesOf x in
-    let q = exactly n (roundsOf x) in
-    let r7 : Told = first (reading Openings (exactly n (roundsOf x)) (x .openings)) fine in
-    let r6 : Told = first (reading Bits (exactly n (roundsOf x)) (x .bits)) r7 in
-    let r5 : Told = first (reading Answers (exactly n (roundsOf x)) (x .answers)) r6 in
-    let r4 : Told = first (reading Challenges (exactly n (roundsOf x)) (x .challenges)) r5 in
+    let n = placesIn x in
+    let q = exactly n (roundsIn x) in
+    let r7 : Told = first (reading Openings (exactly n (roundsIn x)) (x .openings)) fine in
+    let r6 : Told = first (reading Bits (exactly n (roundsIn x)) (x .bits)) r7 in
+    let r5 : Told = first (reading Answers (exactly n (roundsIn x)) (x .answers)) r6 in
+    let r4 : Told = first (reading Challenges (exactly n (roundsIn x)) (x .challenges)) r5 in
     let r3 : Told = first (reading Commitments (ofPlaces n) (x .commitments)) fine in
     let r2 : Told = first (reading Public (ofPlaces n) (x .key)) r3 in
     first-most PERM (first (reading System alone (x .system)) r2) r4
@@ -83,7 +83,7 @@ frames-most x =
     (first-most PERM (reading Openings q (x .openings)) fine (reading-most Openings q (x .openings)) (done-most PERM [])))))
 
 -- past both the rounds decide
-past-both : (grade : ℕ) (x : SignOn) → FramesFit x → enough grade (roundsOf x) ≡ true → judging grade x ≡ roundsCheck x
+past-both : (grade : ℕ) (x : SignOn) → FramesFit x → enough grade (roundsIn x) ≡ true → judging grade x ≡ roundsCheck x
 past-both grade x h s = in-order grade x ∙ rw (frames-fine x h, s)
 
 -- ---- what the rounds say
@@ -101,13 +101,13 @@ module _ (x : SignOn) where
   at = roundsPassed x
 
   passed-before : (k : ℕ) → k < at → roundPasses x k ≡ true
-  passed-before k l = not-false _ (failing-found (systemIn x) (vectorIn x) (messagesIn x) (roundsOf x) .before k (omega arith) l)
+  passed-before k l = not-false _ (failing-found (systemIn x) (vectorIn x) (messagesIn x) (roundsIn x) .before k (omega arith) l)
 
-  fails-here : at < roundsOf x → roundPasses x at ≡ false
-  fails-here l = not-true _ (failing-found (systemIn x) (vectorIn x) (messagesIn x) (roundsOf x) .here l)
+  fails-here : at < roundsIn x → roundPasses x at ≡ false
+  fails-here l = not-true _ (failing-found (systemIn x) (vectorIn x) (messagesIn x) (roundsIn x) .here l)
 
   -- the first round that does not pass is the one before which all pass
-  found-at : (r : ℕ) → r < roundsOf x → ((k : ℕ) → k < r → roundPasses x k ≡ true) → roundPasses x r ≡ false → at ≡ r
+  found-at : (r : ℕ) → r < roundsIn x → ((k : ℕ) → k < r → roundPasses x k ≡ true) → roundPasses x r ≡ false → at ≡ r
   found-at r l before here = by (decLt at r) (decLt r at)
     where
       by : Dec (at < r) → Dec (r < at) → at ≡ r
@@ -115,21 +115,21 @@ module _ (x : SignOn) where
       by (no m) (yes q) = absurd (false≢true (sym here ∙ passed-before r q))
       by (no m) (no q) = omega arith
 
-  rounds-accepted : (v : List ℕ) → roundsCheck x ≡ done v → (at ≡ roundsOf x) × (roundsOf x ∷ [] ≡ v)
+  rounds-accepted : (v : List ℕ) → roundsCheck x ≡ done v → (at ≡ roundsIn x) × (roundsIn x ∷ [] ≡ v)
   unfolding roundsCheck
   rounds-accepted v e =
-      let p = picked-done (eqb at (roundsOf x)) (roundsOf x ∷ []) v (numberOf (bitOf x at)) OPENINGS at e in
+      let p = picked-done (eqb at (roundsIn x)) (roundsIn x ∷ []) v (numberOf (bitIn x at)) OPENINGS at e in
       (eqb-true _ _ (p .0), p .1)
 
-  rounds-refused : (k b r : ℕ) → roundsCheck x ≡ refused k b r → (at < roundsOf x) × (numberOf (bitOf x at) ≡ k) × (OPENINGS ≡ b) × (at ≡ r)
+  rounds-refused : (k b r : ℕ) → roundsCheck x ≡ refused k b r → (at < roundsIn x) × (numberOf (bitIn x at) ≡ k) × (OPENINGS ≡ b) × (at ≡ r)
   unfolding roundsCheck
   rounds-refused k b r e =
-      let p = picked-refused (eqb at (roundsOf x)) (roundsOf x ∷ []) (numberOf (bitOf x at)) OPENINGS at k b r e in
-      (short (ℕ-discrete at (roundsOf x)) (p .0), p .1, p .2, p .3)
+      let p = picked-refused (eqb at (roundsIn x)) (roundsIn x ∷ []) (numberOf (bitIn x at)) OPENINGS at k b r e in
+      (short (ℕ-discrete at (roundsIn x)) (p .0), p .1, p .2, p .3)
     where
-      short : Dec (at ≡ roundsOf x) → eqb at (roundsOf x) ≡ false → at < roundsOf x
-      short (yes e) q = absurd (false≢true (sym q ∙ eq-eqb at (roundsOf x) e))
-      short (no f) q = let m = failing-found (systemIn x) (vectorIn x) (messagesIn x) (roundsOf x) .most in omega arith
+      short : Dec (at ≡ roundsIn x) → eqb at (roundsIn x) ≡ false → at < roundsIn x
+      short (yes e) q = absurd (false≢true (sym q ∙ eq-eqb at (roundsIn x) e))
+      short (no f) q = let m = failing-found (systemIn x) (vectorIn x) (messagesIn x) (roundsIn x) .most in omega arith
 
 -- ---- FIRST and SECOND are told apart by the bit, and from every earlier refusal
 
@@ -147,34 +147,34 @@ number-tells true true e = refl
 
 module _ (grade : ℕ) (x : SignOn) where
   abbrev weak : Told
-  weak = demand (enough grade (roundsOf x)) WEAK NONE 0
+  weak = demand (enough grade (roundsIn x)) WEAK NONE 0
 
-  pub accepted→ : (v : List ℕ) → judging grade x ≡ done v → (roundsOf x ∷ [] ≡ v) × Accepts grade x
+  pub accepted→ : (v : List ℕ) → judging grade x ≡ done v → (roundsIn x ∷ [] ≡ v) × Accepts grade x
   accepted→ v e =
       let a = first-done (framesCheck x) (first weak (roundsCheck x)) v (sym (in-order grade x) ∙ e) in
-      let r = rounds-accepted x v (rest-done (enough grade (roundsOf x)) WEAK NONE 0 (roundsCheck x) v (a .1)) in
+      let r = rounds-accepted x v (rest-done (enough grade (roundsIn x)) WEAK NONE 0 (roundsCheck x) v (a .1)) in
       let z = r .0 in (
         r .1,
         record {
           frames = frames-told x (a .0 .0) (a .0 .1);
-          suffices = test-holds (enough grade (roundsOf x)) WEAK NONE 0 (roundsCheck x) v (a .1);
+          suffices = test-holds (enough grade (roundsIn x)) WEAK NONE 0 (roundsCheck x) v (a .1);
           pass = λ k l. passed-before x k (omega arith);
         },
       )
 
-  pub accepted← : Accepts grade x → judging grade x ≡ done (roundsOf x ∷ [])
+  pub accepted← : Accepts grade x → judging grade x ≡ done (roundsIn x ∷ [])
   unfolding roundsCheck
   accepted← h =
       past-both grade x (h .frames) (h .suffices)
-      ∙ rw (eq-eqb (roundsPassed x) (roundsOf x) (all-pass (systemIn x) (vectorIn x) (messagesIn x) (roundsOf x) (h .pass)))
+      ∙ rw (eq-eqb (roundsPassed x) (roundsIn x) (all-pass (systemIn x) (vectorIn x) (messagesIn x) (roundsIn x) (h .pass)))
 
   pub failed→ : (bit : Bool) (b r : ℕ) → judging grade x ≡ refused (numberOf bit) b r → (OPENINGS ≡ b) × Fails grade x bit r
   failed→ bit b r e = past-frames (first-refused (framesCheck x) (first weak (roundsCheck x)) (numberOf bit) b r (sym (in-order grade x) ∙ e))
     where
-      past-all : FramesFit x → enough grade (roundsOf x) ≡ true → roundsCheck x ≡ refused (numberOf bit) b r → (OPENINGS ≡ b) × Fails grade x bit r
+      past-all : FramesFit x → enough grade (roundsIn x) ≡ true → roundsCheck x ≡ refused (numberOf bit) b r → (OPENINGS ≡ b) × Fails grade x bit r
       past-all f s q =
           let p = rounds-refused x (numberOf bit) b r q in
-          let tells = number-tells (bitOf x (roundsPassed x)) bit (p .1) in (
+          let tells = number-tells (bitIn x (roundsPassed x)) bit (p .1) in (
             p .2,
             subst (Fails grade x bit) (p .3)
                 (record {
@@ -188,8 +188,8 @@ module _ (grade : ℕ) (x : SignOn) where
           )
 
       past-grade : FramesFit x → (weak ≡ refused (numberOf bit) b r) ⊎ (Passed weak × (roundsCheck x ≡ refused (numberOf bit) b r)) → (OPENINGS ≡ b) × Fails grade x bit r
-      past-grade f (inl q) = let m = demand-most WEAK (enough grade (roundsOf x)) WEAK NONE 0 (omega arith) (numberOf bit) b r q in let l = number-late bit in absurd (omega arith)
-      past-grade f (inr (p, q)) = past-all f (demand-done (enough grade (roundsOf x)) WEAK NONE 0 (p .0) (p .1)) q
+      past-grade f (inl q) = let m = demand-most WEAK (enough grade (roundsIn x)) WEAK NONE 0 (omega arith) (numberOf bit) b r q in let l = number-late bit in absurd (omega arith)
+      past-grade f (inr (p, q)) = past-all f (demand-done (enough grade (roundsIn x)) WEAK NONE 0 (p .0) (p .1)) q
 
       past-frames : (framesCheck x ≡ refused (numberOf bit) b r) ⊎ (Passed (framesCheck x) × (first weak (roundsCheck x) ≡ refused (numberOf bit) b r))
           → (OPENINGS ≡ b) × Fails grade x bit r
@@ -202,18 +202,18 @@ module _ (grade : ℕ) (x : SignOn) where
       let e = found-at x r (h .below) (h .before) (h .here) in
       let l = h .below in
       past-both grade x (h .frames) (h .suffices)
-      ∙ rw (ne-eqb (roundsPassed x) (roundsOf x) (λ q. absurd (omega arith)), e, h .asked)
+      ∙ rw (ne-eqb (roundsPassed x) (roundsIn x) (λ q. absurd (omega arith)), e, h .asked)
 
 -- ---- the same of the call's answer
 
 module _ (grade : ℕ) (x : SignOn) (answer : Verdict) (j : Judges grade x answer) where
-  pub answer-accepted→ : (N : ℕ) → answer ≡ Accepted N → (N ≡ roundsOf x) × Accepts grade x
+  pub answer-accepted→ : (N : ℕ) → answer ≡ Accepted N → (N ≡ roundsIn x) × Accepts grade x
   answer-accepted→ N e =
       let a = accepted→ grade x (N ∷ []) (sym (j .says) ∙ ap verdictMeans e) in
       (sym (ap (λ (v : List ℕ). getD v 0 0) (a .0)), a .1)
 
-  pub answer-accepted← : Accepts grade x → answer ≡ Accepted (roundsOf x)
-  answer-accepted← h = verdict-fixes answer (Accepted (roundsOf x)) (j .says ∙ accepted← grade x h)
+  pub answer-accepted← : Accepts grade x → answer ≡ Accepted (roundsIn x)
+  answer-accepted← h = verdict-fixes answer (Accepted (roundsIn x)) (j .says ∙ accepted← grade x h)
 
   pub answer-failed→ : (bit : Bool) (refusal : Refusal) → refusal .number ≡ numberOf bit → answer ≡ Refused refusal
       → (OPENINGS ≡ refusal .buffer) × Fails grade x bit (refusal .place)

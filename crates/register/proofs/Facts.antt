@@ -1,10 +1,10 @@
 -- What frames that are refused nothing say, as plain facts.
 use mathlib.Core.Path.{_≡_, refl, ap, ap₂, _∙_, subst}
 use mathlib.Core.List.{List}
-use Prim.Native.Nat.{ℕ, _-_, _*_, _/_, _≤_, _<_}
+use Prim.Native.Nat.{ℕ, _*_, _/_, _≤_, _<_}
 use native.Mathlib.Nat.{mul-comm}
 use native.Mathlib.Omega.{arith}
-use lib.ListN.{length, take, drop}
+use lib.ListN.{length}
 use Rattle.refusals.specs.Told.{Told, done, fine, first}
 use Rattle.refusals.proofs.Chain.{first-done}
 use Rattle.algebra.specs.Lists.{stretch}
@@ -15,14 +15,14 @@ use Rattle.frames.specs.Kinds.{alone, ofPlaces, exactly}
 use Rattle.frames.specs.Reading.{firstOf, secondOf, restOf, reading}
 use Rattle.frames.specs.PackedBits.{bitAt}
 use Rattle.frames.proofs.Facts.{FrameFits, reading-told, first-within, first-asked, second-asked, rest-length}
-use Rattle.frames.proofs.Orders.{rest-part}
+use Rattle.frames.proofs.Orders.{from, rest-part}
 use Rattle.frames.proofs.Passing.{system-fits}
 use Rattle.frames.proofs.Chosen.{values-told, permutations-told}
 use Rattle.round.specs.Round.{systemOf}
 use Rattle.rounds.specs.Layout.{Messages, messages, MessagesFit}
 use Rattle.rounds.specs.Rounds.{firstFailing}
 use Rattle.rounds.proofs.Runs.{failing-found}
-use Rattle.register.specs.Verdict.{SignOn, placesOf, roundsOf, basisCheck, exchangeCheck, framesCheck, systemIn, vectorIn, messagesIn, roundsPassed, SignOnFits}
+use Rattle.register.specs.Verdict.{SignOn, placesIn, roundsIn, basisCheck, exchangeCheck, framesCheck, systemIn, vectorIn, messagesIn, roundsPassed, SignOnFits}
 
 -- ---- every frame is well formed and agrees with the earlier ones
 
@@ -39,7 +39,7 @@ pub record ExchangeFits (n N : ℕ) (c w b o : List ℕ) : Type 0 where
 
 pub record FramesFit (x : SignOn) : Type 0 where
   pub basis : BasisFits (x .system) (x .key) (x .commitments)
-  pub exchange : ExchangeFits (placesOf x) (roundsOf x) (x .challenges) (x .answers) (x .bits) (x .openings)
+  pub exchange : ExchangeFits (placesIn x) (roundsIn x) (x .challenges) (x .answers) (x .bits) (x .openings)
 
 pub basis-told : (system key commitments v : List ℕ) → basisCheck system key commitments ≡ done v → BasisFits system key commitments
 unfolding basisCheck
@@ -78,11 +78,11 @@ exchange-told n N challenges answers bits openings v e =
 pub frames-told : (x : SignOn) (v : List ℕ) → framesCheck x ≡ done v → FramesFit x
 unfolding framesCheck
 frames-told x v e =
-    let r = exchangeCheck (placesOf x) (roundsOf x) (x .challenges) (x .answers) (x .bits) (x .openings) in
+    let r = exchangeCheck (placesIn x) (roundsIn x) (x .challenges) (x .answers) (x .bits) (x .openings) in
     let a = first-done (basisCheck (x .system) (x .key) (x .commitments)) r v e in
     record {
       basis = basis-told (x .system) (x .key) (x .commitments) (a .0 .0) (a .0 .1);
-      exchange = exchange-told (placesOf x) (roundsOf x) (x .challenges) (x .answers) (x .bits) (x .openings) v (a .1);
+      exchange = exchange-told (placesIn x) (roundsIn x) (x .challenges) (x .answers) (x .bits) (x .openings) v (a .1);
     }
 
 -- n and N are at most 64
@@ -128,7 +128,7 @@ messages-fit n N commitments challenges answers bits openings most size h =
 
 pub sign-on-fits : (x : SignOn) → FramesFit x → SignOnFits x
 sign-on-fits x h =
-    let n = placesOf x in
+    let n = placesIn x in
     let key = h .basis .key .form in
     let commitments = h .basis .commitments .form in
     record {
@@ -141,16 +141,13 @@ sign-on-fits x h =
       openingsThere = h .exchange .openings .form .there;
       systemFits = system-fits (x .system) (h .basis .system);
       vectorFits = rest-length Public (ofPlaces n) (x .key) key ∙ first-asked Public (ofPlaces n) (x .key) key n refl;
-      messagesFit = messages-fit n (roundsOf x) (x .commitments) (x .challenges) (x .answers) (x .bits) (x .openings)
+      messagesFit = messages-fit n (roundsIn x) (x .commitments) (x .challenges) (x .answers) (x .bits) (x .openings)
           (numbers-most (x .system) (x .key) (x .commitments) (h .basis) .1)
           (rest-length Commitments (ofPlaces n) (x .commitments) commitments)
           (h .exchange);
     }
 
 -- ---- the bodies, as the code cuts them
-
-abbrev from : ℕ → List ℕ → List ℕ
-from start s = take (length s - start) (drop start s)
 
 abbrev parts : SignOn → Messages
 parts x = messages (from 5 (x .commitments)) (from 5 (x .challenges)) (from 6 (x .answers)) (from 5 (x .bits)) (from 6 (x .openings))
@@ -165,7 +162,7 @@ parts-messages x =
       rest-part Openings (x .openings) 6 refl,
     )
 
-module _ (x : SignOn) (n m N : ℕ) (p : n ≡ placesOf x) (q : m ≡ secondOf System (x .system)) (r : N ≡ roundsOf x) where
+module _ (x : SignOn) (n m N : ℕ) (p : n ≡ placesIn x) (q : m ≡ secondOf System (x .system)) (r : N ≡ roundsIn x) where
   pub parts-fit : SignOnFits x → SystemFits (from 6 (x .system)) n m × (length (from 5 (x .key)) ≡ n) × MessagesFit n N (parts x)
   parts-fit h = (
     rw (rest-part System (x .system) 6 refl, p, q) (h .systemFits),
@@ -181,9 +178,9 @@ pub bit-cut : (bits : List ℕ) (k : ℕ) → bitAt (from 5 bits) k ≡ bitAt (r
 bit-cut bits k = ap (λ (s : List ℕ). bitAt s k) (rest-part Bits bits 5 refl)
 
 -- the round that does not pass has one
-pub bit-there : (x : SignOn) (passed N : ℕ) → SignOnFits x → passed ≡ roundsPassed x → N ≡ roundsOf x → (passed ≡ N → ⊥) → passed / 8 < length (from 5 (x .bits))
+pub bit-there : (x : SignOn) (passed N : ℕ) → SignOnFits x → passed ≡ roundsPassed x → N ≡ roundsIn x → (passed ≡ N → ⊥) → passed / 8 < length (from 5 (x .bits))
 bit-there x passed N h e q f =
-    let m = failing-found (systemIn x) (vectorIn x) (messagesIn x) (roundsOf x) .most in
+    let m = failing-found (systemIn x) (vectorIn x) (messagesIn x) (roundsIn x) .most in
     let b = h .messagesFit .bits in
     let z = ap length (rest-part Bits (x .bits) 5 refl) in
     omega arith

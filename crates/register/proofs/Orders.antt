@@ -12,7 +12,7 @@ use Rattle.refusals.specs.Number.{WEAK}
 use Rattle.refusals.specs.Buffer.{NONE, OPENINGS}
 use Rattle.refusals.specs.Told.{Told, done, refused, told, means, first, demand}
 use Rattle.refusals.proofs.Chain.{goes-on, stops}
-use Rattle.register.specs.Verdict.{SignOn, roundsOf, framesCheck, enough, roundsPassed, bitOf, numberOf, roundsCheck, judging}
+use Rattle.register.specs.Verdict.{SignOn, roundsIn, framesCheck, enough, roundsPassed, bitIn, numberOf, roundsCheck, judging}
 
 -- ---- the grades
 
@@ -31,7 +31,7 @@ module _ (grade N : ℕ) where
 
 -- ---- document 01's order: the frames, then WEAK, then the rounds
 
-pub in-order : (grade : ℕ) (x : SignOn) → judging grade x ≡ first (framesCheck x) (first (demand (enough grade (roundsOf x)) WEAK NONE 0) (roundsCheck x))
+pub in-order : (grade : ℕ) (x : SignOn) → judging grade x ≡ first (framesCheck x) (first (demand (enough grade (roundsIn x)) WEAK NONE 0) (roundsCheck x))
 unfolding judging
 in-order grade x = refl
 
@@ -39,20 +39,20 @@ pub bad-frames : (grade : ℕ) (x : SignOn) (frames : Checked) (r : Refusal) →
 bad-frames grade x frames r m e = stops _ m e ∙ sym (in-order grade x)
 
 module _ (grade : ℕ) (x : SignOn) (frames : Checked) (m : means frames ≡ framesCheck x) (e : frames ≡ Fine) where
-  pub too-weak : enough grade (roundsOf x) ≡ false → refused WEAK NONE 0 ≡ judging grade x
+  pub too-weak : enough grade (roundsIn x) ≡ false → refused WEAK NONE 0 ≡ judging grade x
   too-weak t = goes-on m e (rw t) ∙ sym (in-order grade x)
 
-  pub rounds-decide : enough grade (roundsOf x) ≡ true → (t : Told) → t ≡ roundsCheck x → t ≡ judging grade x
+  pub rounds-decide : enough grade (roundsIn x) ≡ true → (t : Told) → t ≡ roundsCheck x → t ≡ judging grade x
   rounds-decide s t d = goes-on m e (rw s d) ∙ sym (in-order grade x)
 
 -- ---- the rounds; `passed` is what the code finds, and N what it has read
 
-module _ (x : SignOn) (passed N : ℕ) (e : passed ≡ roundsPassed x) (q : N ≡ roundsOf x) where
+module _ (x : SignOn) (passed N : ℕ) (e : passed ≡ roundsPassed x) (q : N ≡ roundsIn x) where
   pub all-passed : passed ≡ N → done (N ∷ []) ≡ roundsCheck x
   unfolding roundsCheck
-  all-passed z = rw (eq-eqb (roundsPassed x) (roundsOf x) (sym e ∙ z ∙ q), q)
+  all-passed z = rw (eq-eqb (roundsPassed x) (roundsIn x) (sym e ∙ z ∙ q), q)
 
-  pub round-failed : (passed ≡ N → ⊥) → (number : ℕ) → number ≡ numberOf (bitOf x passed) → refused number OPENINGS passed ≡ roundsCheck x
+  pub round-failed : (passed ≡ N → ⊥) → (number : ℕ) → number ≡ numberOf (bitIn x passed) → refused number OPENINGS passed ≡ roundsCheck x
   unfolding roundsCheck
   round-failed f number d =
-      rw (ne-eqb (roundsPassed x) (roundsOf x) (λ z. f (e ∙ z ∙ sym q)), ← e) (ap (λ (k : ℕ). refused k OPENINGS passed) d)
+      rw (ne-eqb (roundsPassed x) (roundsIn x) (λ z. f (e ∙ z ∙ sym q)), ← e) (ap (λ (k : ℕ). refused k OPENINGS passed) d)

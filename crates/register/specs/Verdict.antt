@@ -34,11 +34,11 @@ signOn system key commitments challenges answers bits openings =
     record { system = system; key = key; commitments = commitments; challenges = challenges; answers = answers; bits = bits; openings = openings }
 
 -- n is the system's, N that of the commitments
-abbrev pub placesOf : SignOn → ℕ
-placesOf x = firstOf (x .system)
+abbrev pub placesIn : SignOn → ℕ
+placesIn x = firstOf (x .system)
 
-abbrev pub roundsOf : SignOn → ℕ
-roundsOf x = firstOf (x .commitments)
+abbrev pub roundsIn : SignOn → ℕ
+roundsIn x = firstOf (x .commitments)
 
 -- ---- the frames in order; the later buffer is the one that differs
 
@@ -60,7 +60,7 @@ exchangeCheck n N challenges answers bits openings =
 unfoldable pub framesCheck : SignOn → Told
 framesCheck x =
     first (basisCheck (x .system) (x .key) (x .commitments))
-    (exchangeCheck (placesOf x) (roundsOf x) (x .challenges) (x .answers) (x .bits) (x .openings))
+    (exchangeCheck (placesIn x) (roundsIn x) (x .challenges) (x .answers) (x .bits) (x .openings))
 
 -- ---- the grade: 1 is the inspector, 2 the register keeper
 
@@ -86,15 +86,15 @@ messagesIn x =
     (restOf Openings (x .openings))
 
 -- the bit of round k, and whether the round passes
-abbrev pub bitOf : SignOn → ℕ → Bool
-bitOf x k = bitAt (restOf Bits (x .bits)) k
+abbrev pub bitIn : SignOn → ℕ → Bool
+bitIn x k = bitAt (restOf Bits (x .bits)) k
 
 abbrev pub roundPasses : SignOn → ℕ → Bool
 roundPasses x k = passesAt (systemIn x) (vectorIn x) (messagesIn x) k
 
 -- the first round that does not pass, N where all do
 abbrev pub roundsPassed : SignOn → ℕ
-roundsPassed x = firstFailing (systemIn x) (vectorIn x) (messagesIn x) (roundsOf x)
+roundsPassed x = firstFailing (systemIn x) (vectorIn x) (messagesIn x) (roundsIn x)
 
 -- a round of bit 0 that does not pass is FIRST, of bit 1 SECOND
 abbrev pub numberOf : Bool → ℕ
@@ -103,12 +103,12 @@ numberOf true = SECOND
 
 unfoldable pub roundsCheck : SignOn → Told
 roundsCheck x =
-    cond (eqb (roundsPassed x) (roundsOf x)) (done (roundsOf x ∷ [])) (refused (numberOf (bitOf x (roundsPassed x))) OPENINGS (roundsPassed x))
+    cond (eqb (roundsPassed x) (roundsIn x)) (done (roundsIn x ∷ [])) (refused (numberOf (bitIn x (roundsPassed x))) OPENINGS (roundsPassed x))
 
 -- ---- the verdict: accepted N, or the first refusal
 
 unfoldable pub judging : ℕ → SignOn → Told
-judging grade x = first (framesCheck x) (first (demand (enough grade (roundsOf x)) WEAK NONE 0) (roundsCheck x))
+judging grade x = first (framesCheck x) (first (demand (enough grade (roundsIn x)) WEAK NONE 0) (roundsCheck x))
 
 -- what a verdict means
 abbrev pub verdictMeans : Verdict → Told
@@ -129,6 +129,6 @@ pub record SignOnFits (x : SignOn) : Type 0 where
   pub answersThere : 6 ≤ length (x .answers)
   pub bitsThere : 5 ≤ length (x .bits)
   pub openingsThere : 6 ≤ length (x .openings)
-  pub systemFits : SystemFits (restOf System (x .system)) (placesOf x) (secondOf System (x .system))
-  pub vectorFits : length (vectorIn x) ≡ placesOf x
-  pub messagesFit : MessagesFit (placesOf x) (roundsOf x) (messagesIn x)
+  pub systemFits : SystemFits (restOf System (x .system)) (placesIn x) (secondOf System (x .system))
+  pub vectorFits : length (vectorIn x) ≡ placesIn x
+  pub messagesFit : MessagesFit (placesIn x) (roundsIn x) (messagesIn x)

@@ -20,7 +20,7 @@ use Rattle.frames.specs.Kinds.{alone, ofPlaces}
 use Rattle.frames.specs.Reading.{firstOf, secondOf, restOf, reading}
 use Rattle.frames.specs.Choosing.{vectorOf, permutationOf, choicesCheck}
 use Rattle.frames.proofs.Facts.{test-holds, rest-done, rest-length, FrameFits, reading-told, fits-read, first-asked}
-use Rattle.frames.proofs.Orders.{rest-part}
+use Rattle.frames.proofs.Orders.{from, rest-part}
 use Rattle.frames.proofs.Passing.{Chosen, choice-parts, choices-pass, system-fits}
 use Rattle.frames.proofs.Chosen.{Choice, choices-told, first-stretch}
 use Rattle.round.specs.Round.{systemOf, Pair, pair, WellFormed, standIn}
@@ -33,7 +33,7 @@ one-choice-told n choices v e =
     let z : length choices ≡ n + n = omega (arith, c .0) in
     (z, subst (Choice n) (first-stretch (n + n) choices (omega arith)) (c .1 0 (omega arith)))
 
-pub record LentFits (c bit : ℕ) (system key lent : List ℕ) : Type 0 where
+pub record StandInFits (c bit : ℕ) (system key lent : List ℕ) : Type 0 where
   pub challenge : c < modulus
   pub oneBit : bit < 2
   pub systemThere : 6 ≤ length system
@@ -43,7 +43,7 @@ pub record LentFits (c bit : ℕ) (system key lent : List ℕ) : Type 0 where
   pub size : length lent ≡ firstOf system + firstOf system
   pub well : WellFormed (systemOf (restOf System system) (firstOf system) (secondOf System system)) (pair (vectorOf (firstOf system) lent) (permutationOf (firstOf system) lent))
 
-pub lent-told : (c bit : ℕ) (system key lent v : List ℕ) → lentCheck c bit system key lent ≡ done v → LentFits c bit system key lent
+pub lent-told : (c bit : ℕ) (system key lent v : List ℕ) → lentCheck c bit system key lent ≡ done v → StandInFits c bit system key lent
 unfolding lentCheck vectorOf
 lent-told c bit system key lent v e =
     let n = firstOf system in
@@ -73,10 +73,7 @@ lent-told c bit system key lent v e =
 
 -- ---- the values lent, as the code cuts them
 
-abbrev from : ℕ → List ℕ → List ℕ
-from start s = take (length s - start) (drop start s)
-
-module _ (c bit : ℕ) (system key lent : List ℕ) (h : LentFits c bit system key lent) (n m : ℕ) (p : n ≡ firstOf system) (q : m ≡ secondOf System system) where
+module _ (c bit : ℕ) (system key lent : List ℕ) (h : StandInFits c bit system key lent) (n m : ℕ) (p : n ≡ firstOf system) (q : m ≡ secondOf System system) where
   tail : from n lent ≡ permutationOf n lent
   unfolding permutationOf
   tail = let z = h .size in let e : length lent - n ≡ n = omega arith in ap (λ (k : ℕ). take k (drop n lent)) e

@@ -15,7 +15,7 @@ use Rattle.sha256.specs.Standard.{digestOf}
 use Rattle.sha256.proofs.Digest.{digest-length}
 use Rattle.round.specs.Round.{System, Pair, pair, standInCommitted, standInAnswer, standIn}
 use Rattle.round.proofs.Laws.{length-under}
-use Rattle.stand_in.specs.Standing.{roundSize, bytesOf}
+use Rattle.stand_in.specs.Standing.{roundSize, roundBytes}
 
 -- W has n residues
 answer-length : (p n : ℕ) (v : List ℕ) (c : ℕ) (bit : Bool) (y : Pair) → length (y .vector) ≡ n → IsPerm n (y .permutation) → length (standInAnswer p v c bit y) ≡ n
@@ -35,8 +35,8 @@ answer-over v c bit u θ d at k e h l f =
 module _ (s : System) (v : List ℕ) (c : ℕ) (bit : Bool) (y : Pair) (n : ℕ) (e : length (y .vector) ≡ n) (h : IsPerm n (y .permutation)) where
   pub round-laid : (d out one two all : List ℕ) → d ≡ digestOf (standInCommitted s v c bit y) → one ≡ over d out
       → two ≡ overAt (standInAnswer (s .p) v c bit y) 32 one → all ≡ overAt (y .permutation) (32 + n) two
-      → all ≡ over (bytesOf (standIn s v c bit y)) out
-  unfolding bytesOf standIn
+      → all ≡ over (roundBytes (standIn s v c bit y)) out
+  unfolding roundBytes standIn
   round-laid d out one two all q a b z =
       let w = standInAnswer (s .p) v c bit y in
       let k : length d ≡ 32 = ap length q ∙ digest-length (standInCommitted s v c bit y) in
@@ -47,8 +47,8 @@ module _ (s : System) (v : List ℕ) (c : ℕ) (bit : Bool) (y : Pair) (n : ℕ)
       ∙ over-behind (d ++ w) (y .permutation) out (32 + n) m
       ∙ ap (λ (x : List ℕ). over ((x ++ w) ++ y .permutation) out) q
 
-  pub round-size : length (bytesOf (standIn s v c bit y)) ≡ roundSize n
-  unfolding bytesOf standIn
+  pub round-size : length (roundBytes (standIn s v c bit y)) ≡ roundSize n
+  unfolding roundBytes standIn
   round-size =
       let d = digestOf (standInCommitted s v c bit y) in
       let w = standInAnswer (s .p) v c bit y in

@@ -22,15 +22,15 @@ use Rattle.frames.specs.Writing.{outAfter}
 use Rattle.frames.proofs.Outcomes.{written-fixes}
 use Rattle.round.specs.Round.{systemOf, passes}
 use Rattle.round.proofs.Laws.{stand-in-passes}
-use Rattle.stand_in.specs.Standing.{lentCheck, roundSize, standing, standInOf, bytesOf, StandsIn}
-use Rattle.stand_in.proofs.Facts.{LentFits, lent-told}
+use Rattle.stand_in.specs.Standing.{lentCheck, roundSize, standing, standInOf, roundBytes, StandsIn}
+use Rattle.stand_in.proofs.Facts.{StandInFits, lent-told}
 use Rattle.stand_in.proofs.Laid.{round-size}
 
 module _ (c bit : ℕ) (system key lent out : List ℕ) where
   pub one-stand-in : (r q : Written) (x y : List ℕ) → StandsIn c bit system key lent out r x → StandsIn c bit system key lent out q y → (r ≡ q) × (x ≡ y)
   one-stand-in r q x y p s =
       let e : r ≡ q = written-fixes r q (p .says ∙ sym (s .says)) in
-      (e, p .writes ∙ ap (λ (t : Written). outAfter t (bytesOf (standInOf c bit system key lent)) out) e ∙ sym (s .writes))
+      (e, p .writes ∙ ap (λ (t : Written). outAfter t (roundBytes (standInOf c bit system key lent)) out) e ∙ sym (s .writes))
 
   pub refused-changes-nothing : (r : Refusal) (after : List ℕ) → StandsIn c bit system key lent out (Refused r) after → after ≡ out
   refused-changes-nothing r after p = p .writes
@@ -53,11 +53,11 @@ module _ (c bit : ℕ) (system key lent out : List ℕ) where
     unfolding standing
     accepted = first-done (lentCheck c bit system key lent) room (bytes ∷ []) (sym (p .says))
 
-    fits : LentFits c bit system key lent
+    fits : StandInFits c bit system key lent
     fits = lent-told c bit system key lent (accepted .0 .0) (accepted .0 .1)
 
     -- it tells how many bytes it has written
-    pub told-size : length (bytesOf (standInOf c bit system key lent)) ≡ bytes
+    pub told-size : length (roundBytes (standInOf c bit system key lent)) ≡ bytes
     unfolding standInOf
     told-size =
         let e = first-done (demand (leb (roundSize n) (length out)) ROOM OUTPUT (roundSize n)) (done (roundSize n ∷ [])) (bytes ∷ []) (accepted .1) .1 in

@@ -42,10 +42,10 @@ standInOf c bit system key lent =
     standIn (systemOf (restOf System system) (firstOf system) (secondOf System system)) (restOf Public key) c (eqb bit 1)
     (pair (vectorOf (firstOf system) lent) (permutationOf (firstOf system) lent))
 
-unfoldable pub bytesOf : Opened → List ℕ
-bytesOf o = (o .commitment ++ o .answer) ++ o .permutation
+unfoldable pub roundBytes : Opened → List ℕ
+roundBytes o = (o .commitment ++ o .answer) ++ o .permutation
 
 -- what the stand-in promises: its answer, and every byte of the output
 pub record StandsIn (c bit : ℕ) (system key lent out : List ℕ) (answer : Written) (after : List ℕ) : Type 0 where
   pub says : writtenMeans answer ≡ standing c bit system key lent (length out)
-  pub writes : after ≡ outAfter answer (bytesOf (standInOf c bit system key lent)) out
+  pub writes : after ≡ outAfter answer (roundBytes (standInOf c bit system key lent)) out

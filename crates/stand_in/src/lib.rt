@@ -28,7 +28,7 @@ ghost use Rattle.algebra.specs.Residues.{modulus};
 ghost use Rattle.algebra.specs.Permutations.{longest, IsPerm};
 ghost use Rattle.algebra.specs.Matrices.{SystemFits};
 ghost use Rattle.round.specs.Round.{systemOf, pair, standInAnswer, standIn};
-ghost use Rattle.stand_in.specs.Standing.{lentCheck, roundSize, bytesOf, StandsIn};
+ghost use Rattle.stand_in.specs.Standing.{lentCheck, roundSize, roundBytes, StandsIn};
 
 // The numbers, the frames, and what is lent.
 fn check_lent(c: usize, bit: usize, system: &[u8], key: &[u8], lent: &[u8]) -> Checked
@@ -71,7 +71,7 @@ fn put_round(
     out: &mut [u8],
 )
     requires { ⌜ SystemFits (now a) n m × (length (now v) ≡ n) × (c < modulus) × (length (now u) ≡ n) × IsPerm (length (now theta)) (now theta) × (length (now theta) ≡ n) × (roundSize n ≤ length (now out)) ⌝ }
-    ensures { λ _. ⌜ now (out .exit) ≡ over (bytesOf (standIn (systemOf (now (a .entry)) n m) (now (v .entry)) c bit (pair (now (u .entry)) (now (theta .entry))))) (now (out .entry)) ⌝ }
+    ensures { λ _. ⌜ now (out .exit) ≡ over (roundBytes (standIn (systemOf (now (a .entry)) n m) (now (v .entry)) c bit (pair (now (u .entry)) (now (theta .entry))))) (now (out .entry)) ⌝ }
 {
     let commitment = stand_in_commitment(a, n, m, v, c, bit, u, theta);
     copy_into(&commitment, out);

@@ -7,16 +7,16 @@ use lib.Seq.{length-take-le}
 use Rattle.refusals.specs.Told.{means}
 use Rattle.refusals.proofs.Chain.{goes-on, stops}
 use Rattle.algebra.specs.Lists.{over}
-use Rattle.stand_in.specs.Standing.{bytesOf, standing}
+use Rattle.stand_in.specs.Standing.{roundBytes, standing}
 use Rattle.round.specs.Round.{Opened}
 use Rattle.stand_in.proofs.Orders.{no-room, room-enough}
-use Rattle.stand_in.proofs.Facts.{LentFits, lent-told, parts-fit, parts-stand-in}
+use Rattle.stand_in.proofs.Facts.{StandInFits, lent-told, parts-fit, parts-stand-in}
 use Rattle.stand_in.proofs.stand_in.Statement.{statement}
 use Rattle.stand_in.proofs.stand_in.Tie as tie
 
 -- past the checks
 past-lent : (c : tie.After-enum-told)
-    → LentFits (c .before .before .before .before .before .before .before .args .c) (c .before .before .before .before .before .before .before .args .bit) (c .before .before .before .before .before .before .before .args .system .now) (c .before .before .before .before .before .before .before .args .key .now) (c .before .before .before .before .before .before .before .args .lent .now)
+    → StandInFits (c .before .before .before .before .before .before .before .args .c) (c .before .before .before .before .before .before .before .args .bit) (c .before .before .before .before .before .before .before .args .system .now) (c .before .before .before .before .before .before .before .args .key .now) (c .before .before .before .before .before .before .before .args .lent .now)
 past-lent c = lent-told _ _ _ _ _ [] (sym (c .before .before .check-lent .ensures) ∙ ap means (c .enum-told .given .1))
 
 check-lent-requires : tie.Need-check-lent-requires
@@ -107,7 +107,7 @@ returns-3 c =
     let h = past-lent (c .before .before .before .before .before .before .before .before .before .before .before .before .before) in
     record {
       says = goes-on (c .before .before .before .before .before .before .before .before .before .before .before .before .before .before .before .check-lent .ensures) (c .before .before .before .before .before .before .before .before .before .before .before .before .before .enum-told .given .1) (room-enough _ _ _ (omega (arith, c .before .before .before .before .before .before .before .before .before .before .before .wide .ensures .0)) (c .before .before .before .before .before .before .before .before .before .before .if1 .left));
-      writes = c .before .before .put-round .ensures ∙ ap (λ (o : Opened). over (bytesOf o) (g .out .now)) (parts-stand-in _ _ _ _ _ h _ _ (c .before .before .before .before .before .before .before .before .before .before .before .wide .ensures .0) (c .before .before .before .before .before .before .before .before .wide2 .ensures .0));
+      writes = c .before .before .put-round .ensures ∙ ap (λ (o : Opened). over (roundBytes o) (g .out .now)) (parts-stand-in _ _ _ _ _ h _ _ (c .before .before .before .before .before .before .before .before .before .before .before .wide .ensures .0) (c .before .before .before .before .before .before .before .before .wide2 .ensures .0));
     }
 
 pub stand-in-spec : {M : Type 1} → statement M

@@ -5,14 +5,14 @@ use native.Mathlib.Omega.{arith}
 use borrow.Author.Needs.{needs}
 use Rattle.algebra.specs.Drawings.{usedBy}
 use Rattle.draw.specs.Making.{drawChoice, drawChoices}
-use Rattle.draw.specs.Sequences.{times}
+use Rattle.draw.specs.Sequences.{manyTimes}
 use Rattle.draw.proofs.Sequences.{times-none, times-ends, measured-more}
 use Rattle.algebra.specs.declared.draw.Used.the-variants.{To}
 use Rattle.draw.proofs.choices.measure_choices.Statement.{statement}
 use Rattle.draw.proofs.choices.measure_choices.Tie as tie
 
 abbrev Inv-loop : tie.InvT-loop
-Inv-loop n rounds random p₀ k₀ p k = (k ≤ rounds) × (To p ≡ usedBy (times k (drawChoice n random) 0))
+Inv-loop n rounds random p₀ k₀ p k = (k ≤ rounds) × (To p ≡ usedBy (manyTimes k (drawChoice n random) 0))
 
 abbrev μ-loop : tie.MeasureT-loop
 μ-loop n rounds random p₀ k₀ p k = rounds - k
@@ -52,7 +52,7 @@ returns-2 c =
     let l = c .before .loop in
     let g = c .before .before .before .args in
     let e : l .k ≡ g .rounds = omega arith in
-    l .inv .1 ∙ ap (λ (k : ℕ). usedBy (times k (drawChoice (g .n) (g .random .now)) 0)) e
+    l .inv .1 ∙ ap (λ (k : ℕ). usedBy (manyTimes k (drawChoice (g .n) (g .random .now)) 0)) e
 
 pub measure-choices-spec : {M : Type 1} → statement M
 measure-choices-spec =

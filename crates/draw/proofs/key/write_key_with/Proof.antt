@@ -12,7 +12,7 @@ use Rattle.frames.specs.Kinds.{fits}
 use Rattle.frames.specs.Writing.{frame}
 use Rattle.draw.specs.Making.{keyFrames, drawPair, drawKey}
 use Rattle.draw.specs.Sequences.{listOf}
-use Rattle.draw.proofs.Making.{Pair, pair-drawn, length-publicKey}
+use Rattle.draw.proofs.Making.{DrawnPair, pair-drawn, length-publicKey}
 use Rattle.draw.proofs.Sequences.{listed, made-over}
 use Rattle.frames.specs.declared.kind.Kind.the-variants.{Public, Secret}
 use Rattle.draw.proofs.key.write_key_with.Statement.{statement}
@@ -69,7 +69,7 @@ returns c =
     let d = drawPair n m (g .args .random .now) in
     let l = listOf d in
     let f = c .before .before .before .before .before .before .before .before .before .before .before .before .form-key in
-    let h = listed (Pair n m) d (pair-drawn n m (g .args .random .now) (omega arith)) (g .pre .1) in
+    let h = listed (DrawnPair n m) d (pair-drawn n m (g .args .random .now) (omega arith)) (g .pre .1) in
     c .before .before .put-key .ensures
     ∙ ap₂ (λ (v pi : List ℕ). over (frame Public n 0 v ++ frame Secret n 0 pi) out)
     (front _ (g .args .v .now) _ n (length-publicKey entries n m (take n l) (drop n l)) (f .ensures .1))
