@@ -21,6 +21,7 @@ use Rattle.card_checks.specs.declared.session.Session.{Session}
 use Rattle.card_checks.specs.Stages.{COMMITTED, ANSWERED}
 use Rattle.card_checks.specs.Keys.{Keys, placesOf, rowsOf, faultOf, keysCheck, validCheck, ChecksKey}
 use Rattle.card_checks.specs.Asking.{staged, atRest, recordFits, keptFit, commitmentsSize, answersSize, openingsSize, restCheck, beginCheck, answerCheck, openCheck}
+use Rattle.card_checks.proofs.Orders.{rest-in-order, open-in-order}
 
 pub one-key-check : (k : Keys) (a b : Checked) → ChecksKey k a → ChecksKey k b → a ≡ b
 one-key-check k a b p q = means-fixes a b (p .says ∙ sym (q .says))
@@ -44,14 +45,16 @@ keys-most k rest =
     (frame-most System alone (k .system) r2 (frame-most Public e (k .public) r3 (frame-most Secret e (k .secret) fine (done-most STAGE []))))
 
 rest-most : (k : Keys) (N : ℕ) (choices : List ℕ) (need room : ℕ) → UpTo STAGE (restCheck k N choices need room)
-unfolding restCheck validCheck
+unfolding validCheck
 rest-most k N choices need room =
     let n = placesOf k in
     let r3 : Told = demand (leb need room) ROOM OUTPUT need in
     let r2 : Told = first (validCheck k) r3 in
+    let h : UpTo STAGE (first (choicesCheck n N choices) r2) =
     first-most STAGE (choicesCheck n N choices) r2 (most-more PERM STAGE (choicesCheck n N choices) (omega arith) (choices-most n N choices))
     (test-most (eqb (faultOf k) (rowsOf k)) KEY SECRET (faultOf k) r3 (omega arith) (omega arith)
-    (demand-most STAGE (leb need room) ROOM OUTPUT need (omega arith) (omega arith)))
+    (demand-most STAGE (leb need room) ROOM OUTPUT need (omega arith) (omega arith))) in
+    rw (rest-in-order k N choices need room) h
 
 pub begin-most : (s : Session) (N : ℕ) (k : Keys) (choices : List ℕ) (room : ℕ) → UpTo STAGE (beginCheck s N k choices room)
 unfolding beginCheck
@@ -78,7 +81,6 @@ module _ (s : Session) (k : Keys) (message choices : List ℕ) (room : ℕ) wher
       (frame-most Challenges (exactly n N) message r5 (rest-most k N choices (answersSize n N) room))))
 
   pub open-most : UpTo STAGE (openCheck s k message choices room)
-  unfolding openCheck
   open-most =
       let n = placesOf k in
       let N = s .rounds in
@@ -86,8 +88,10 @@ module _ (s : Session) (k : Keys) (message choices : List ℕ) (room : ℕ) wher
       let r5 : Told = first (reading Bits (exactly n N) message) r6 in
       let r4 : Told = first (staged (keptFit N (s .challenges))) r5 in
       let r3 : Told = first (staged (recordFits s n (rowsOf k))) r4 in
+      let h : UpTo STAGE (first (staged (eqb (s .stage) ANSWERED)) (first (keysCheck k) r3)) =
       test-most (eqb (s .stage) ANSWERED) STAGE NONE 0 (first (keysCheck k) r3) (omega arith) (omega arith)
       (keys-most k r3
       (test-most (recordFits s n (rowsOf k)) STAGE NONE 0 r4 (omega arith) (omega arith)
       (test-most (keptFit N (s .challenges)) STAGE NONE 0 r5 (omega arith) (omega arith)
-      (frame-most Bits (exactly n N) message r6 (rest-most k N choices (openingsSize n N) room)))))
+      (frame-most Bits (exactly n N) message r6 (rest-most k N choices (openingsSize n N) room))))) in
+      rw (open-in-order s k message choices room) h
