@@ -1,16 +1,24 @@
 -- For each call: no second outcome fits what it promises, and a refused call changes nothing.
 use mathlib.Core.Path.{_≡_, sym, ap, ap₂, _∙_}
-use mathlib.Core.List.{List}
+use mathlib.Core.List.{List, [], _∷_}
 use Prim.Native.Nat.{ℕ}
+use native.Mathlib.Omega.{arith}
+use lib.Dec.{eqb}
 use Rattle.refusals.specs.declared.Refusal.{Refusal}
+use Rattle.refusals.specs.Number.{STAGE, SELF}
+use Rattle.refusals.specs.Buffer.{CHOICES}
+use Rattle.refusals.specs.Told.{Told, done, first}
+use Rattle.refusals.proofs.Chain.{first-done, UpTo, done-most, demand-most, first-most, most-more}
 use Rattle.frames.specs.declared.write.Written.{Written}
 use Rattle.frames.specs.declared.write.Written.the-variants.{Refused}
 use Rattle.frames.specs.Writing.{writtenMeans, outAfter}
 use Rattle.frames.proofs.Outcomes.{written-fixes}
 use Rattle.card_checks.specs.declared.session.Session.{Session}
-use Rattle.card_checks.specs.Keys.{Keys}
+use Rattle.card_checks.specs.Keys.{Keys, placesOf}
+use Rattle.card_checks.specs.Asking.{commitmentsSize, answersSize, openingsSize, beginCheck, answerCheck, openCheck}
+use Rattle.card_checks.proofs.Outcomes.{begin-most, answer-most, open-most}
 use Rattle.card.specs.declared.Step.{Step}
-use Rattle.card.specs.Steps.{unlessRefused, BeginStep, AnswerStep, zeroed, OpenStep, GiveUpStep}
+use Rattle.card.specs.Steps.{unlessRefused, beginTold, BeginStep, answerTold, AnswerStep, faultyRound, ownCheck, openRefusal, openTold, zeroed, OpenStep, GiveUpStep}
 
 step : Written → Session → Step
 step told next = record { told = told; next = next }
@@ -76,3 +84,45 @@ module _ (s : Session) (k : Keys) (message choices out : List ℕ) where
 
 pub one-give-up : (s : Session) (choices : List ℕ) (a b : Session) (u v : List ℕ) → GiveUpStep s choices a u → GiveUpStep s choices b v → (a ≡ b) × (u ≡ v)
 one-give-up s choices a b u v p q = (p .moves ∙ sym (q .moves), p .clears ∙ sym (q .clears))
+
+-- ---- what the calls tell: one value, the bytes written, or a refusal by the numbers up to SELF
+
+-- a chain that refuses by the numbers up to STAGE, and then a success of one value
+wrote-most : (check : Told) (bytes : ℕ) → UpTo STAGE check → UpTo SELF (first check (done (bytes ∷ [])))
+wrote-most check bytes h = first-most SELF check (done (bytes ∷ [])) (most-more STAGE SELF check (omega arith) h) (done-most SELF (bytes ∷ []))
+
+wrote-one : (check : Told) (bytes : ℕ) (values : List ℕ) → first check (done (bytes ∷ [])) ≡ done values → values ≡ bytes ∷ []
+wrote-one check bytes values e = let q = first-done check (done (bytes ∷ [])) values e .1 in cc
+
+module _ (s : Session) (N : ℕ) (k : Keys) (choices : List ℕ) (room : ℕ) where
+  pub begin-told-most : UpTo SELF (beginTold s N k choices room)
+  unfolding beginTold
+  begin-told-most = wrote-most (beginCheck s N k choices room) (commitmentsSize N) (begin-most s N k choices room)
+
+  pub begin-told-one : (values : List ℕ) → beginTold s N k choices room ≡ done values → values ≡ commitmentsSize N ∷ []
+  unfolding beginTold
+  begin-told-one values e = wrote-one (beginCheck s N k choices room) (commitmentsSize N) values e
+
+module _ (s : Session) (k : Keys) (message choices : List ℕ) (room : ℕ) where
+  pub answer-told-most : UpTo SELF (answerTold s k message choices room)
+  unfolding answerTold
+  answer-told-most = wrote-most (answerCheck s k message choices room) (answersSize (placesOf k) (s .rounds)) (answer-most s k message choices room)
+
+  pub answer-told-one : (values : List ℕ) → answerTold s k message choices room ≡ done values → values ≡ answersSize (placesOf k) (s .rounds) ∷ []
+  unfolding answerTold
+  answer-told-one values e = wrote-one (answerCheck s k message choices room) (answersSize (placesOf k) (s .rounds)) values e
+
+  pub open-told-most : UpTo SELF (openTold s k message choices room)
+  unfolding openTold openRefusal ownCheck
+  open-told-most =
+      let check = openCheck s k message choices room in
+      let round = faultyRound s k message choices in
+      let bytes = openingsSize (placesOf k) (s .rounds) in
+      first-most SELF (first check (ownCheck s k message choices)) (done (bytes ∷ []))
+      (first-most SELF check (ownCheck s k message choices) (most-more STAGE SELF check (omega arith) (open-most s k message choices room))
+      (demand-most SELF (eqb round (s .rounds)) SELF CHOICES round (omega arith) (omega arith)))
+      (done-most SELF (bytes ∷ []))
+
+  pub open-told-one : (values : List ℕ) → openTold s k message choices room ≡ done values → values ≡ openingsSize (placesOf k) (s .rounds) ∷ []
+  unfolding openTold
+  open-told-one values e = wrote-one (openRefusal s k message choices room) (openingsSize (placesOf k) (s .rounds)) values e

@@ -9,8 +9,9 @@ use lib.ListN.{length, getD}
 use Rattle.refusals.specs.Number.{SHORT, LONG, VERSION, KIND, SHAPE, VALUE, PERM}
 use Rattle.refusals.specs.declared.Refusal.{Refusal}
 use Rattle.refusals.specs.declared.Checked.{Checked}
-use Rattle.refusals.specs.Told.{Told, done, refused, means, first, demand}
-use Rattle.refusals.proofs.Chain.{means-fixes, AtMost, done-most, demand-most, first-most, below-most}
+use Rattle.refusals.specs.Buffer.{CHOICES}
+use Rattle.refusals.specs.Told.{Told, done, refused, means, first, firstBelow, demand}
+use Rattle.refusals.proofs.Chain.{means-fixes, UpTo, done-most, demand-most, first-most, below-most}
 use Rattle.algebra.specs.Lists.{stretch}
 use Rattle.algebra.specs.Residues.{modulus}
 use Rattle.algebra.specs.Permutations.{isPerm}
@@ -23,6 +24,7 @@ use Rattle.frames.specs.declared.write.Written.{Written}
 use Rattle.frames.specs.declared.write.Written.the-variants.{Wrote, Refused as NotWritten}
 use Rattle.frames.specs.Kinds.{table}
 use Rattle.frames.specs.Reading.{countOf, header, firstOf, secondOf, restOf, shape, residueAt, values, permutationAt, permutations, content, reading, readMeans, Reads, openingCheck}
+use Rattle.frames.specs.Choosing.{choiceSize, choiceOf, vectorOf, permutationOf, choiceCheck, choiceAt, choicesCheck}
 use Rattle.frames.specs.Writing.{frame, writtenMeans, outAfter, Writes}
 
 -- ---- readers: they write nothing
@@ -43,16 +45,16 @@ pub one-reading : (k : Kind) (e : Expected) (s : List ℕ) (a b : Read) → Read
 one-reading k e s a b p q = sym (reader-means a) ∙ ap reader (p .says ∙ sym (q .says)) ∙ reader-means b
 
 -- a reader refuses by the numbers up to PERM alone
-values-most : (b at : ℕ) (l : List ℕ) → AtMost PERM (values b at l)
+values-most : (b at : ℕ) (l : List ℕ) → UpTo PERM (values b at l)
 unfolding values
-values-most b at l = below-most PERM (length l) (residueAt b at l) (λ j. demand-most PERM (ltb (getD l j 0) modulus) VALUE b (at + j) (omega arith))
+values-most b at l = below-most PERM (length l) (residueAt b at l) (λ j. demand-most PERM (ltb (getD l j 0) modulus) VALUE b (at + j) (omega arith) (omega arith))
 
-permutations-most : (b n at count : ℕ) (l : List ℕ) → AtMost PERM (permutations b n at count l)
+permutations-most : (b n at count : ℕ) (l : List ℕ) → UpTo PERM (permutations b n at count l)
 unfolding permutations
 permutations-most b n at count l =
-    below-most PERM count (permutationAt b n at l) (λ k. demand-most PERM (isPerm n (stretch n k l)) PERM b (at + k * n) (omega arith))
+    below-most PERM count (permutationAt b n at l) (λ k. demand-most PERM (isPerm n (stretch n k l)) PERM b (at + k * n) (omega arith) (omega arith))
 
-content-most : (k : Kind) (a b at : ℕ) (rest : List ℕ) → AtMost PERM (content k a b at rest)
+content-most : (k : Kind) (a b at : ℕ) (rest : List ℕ) → UpTo PERM (content k a b at rest)
 content-most System a b at rest = values-most _ at rest
 content-most Public a b at rest = values-most _ at rest
 content-most Secret a b at rest = permutations-most _ a at 1 rest
@@ -63,10 +65,10 @@ content-most Bits a b at rest = done-most PERM []
 content-most Openings a b at rest = permutations-most _ a at b rest
 
 -- a test in front of a chain
-test-most : (test : Bool) (x y z : ℕ) (rest : Told) → x ≤ PERM → AtMost PERM rest → AtMost PERM (first (demand test x y z) rest)
-test-most test x y z rest h = first-most PERM (demand test x y z) rest (demand-most PERM test x y z h)
+test-most : (test : Bool) (x y z : ℕ) (rest : Told) → 1 ≤ x → x ≤ PERM → UpTo PERM rest → UpTo PERM (first (demand test x y z) rest)
+test-most test x y z rest g h = first-most PERM (demand test x y z) rest (demand-most PERM test x y z g h)
 
-header-most : (k : Kind) (s : List ℕ) → AtMost PERM (header k s)
+header-most : (k : Kind) (s : List ℕ) → UpTo PERM (header k s)
 unfolding header
 header-most k s =
     let b = table k .buffer in
@@ -74,20 +76,35 @@ header-most k s =
     let r4 : Told = first (demand (eqb (getD s 2 0) (table k .version)) VERSION b 2) r5 in
     let r3 : Told = first (demand (leb (length s) (countOf s + 2)) LONG b 0) r4 in
     let r2 : Told = first (demand (leb (countOf s + 2) (length s)) SHORT b 0) r3 in
-    test-most (leb 4 (length s)) SHORT b 0 r2 (omega arith)
-    (test-most (leb (countOf s + 2) (length s)) SHORT b 0 r3 (omega arith)
-    (test-most (leb (length s) (countOf s + 2)) LONG b 0 r4 (omega arith)
-    (test-most (eqb (getD s 2 0) (table k .version)) VERSION b 2 r5 (omega arith)
-    (demand-most PERM (eqb (getD s 3 0) (table k .number)) KIND b 3 (omega arith)))))
+    test-most (leb 4 (length s)) SHORT b 0 r2 (omega arith) (omega arith)
+    (test-most (leb (countOf s + 2) (length s)) SHORT b 0 r3 (omega arith) (omega arith)
+    (test-most (leb (length s) (countOf s + 2)) LONG b 0 r4 (omega arith) (omega arith)
+    (test-most (eqb (getD s 2 0) (table k .version)) VERSION b 2 r5 (omega arith) (omega arith)
+    (demand-most PERM (eqb (getD s 3 0) (table k .number)) KIND b 3 (omega arith) (omega arith)))))
 
-pub reading-most : (k : Kind) (e : Expected) (s : List ℕ) → AtMost PERM (reading k e s)
+pub reading-most : (k : Kind) (e : Expected) (s : List ℕ) → UpTo PERM (reading k e s)
 unfolding reading
 reading-most k e s =
     let values = firstOf s ∷ secondOf k s ∷ table k .start ∷ [] in
     let body = content k (firstOf s) (secondOf k s) (table k .start) (restOf k s) in
     first-most PERM (header k s) (first (demand (shape k e s) SHAPE (table k .buffer) 4) (first body (done values))) (header-most k s)
-    (test-most (shape k e s) SHAPE (table k .buffer) 4 (first body (done values)) (omega arith)
+    (test-most (shape k e s) SHAPE (table k .buffer) 4 (first body (done values)) (omega arith) (omega arith)
     (first-most PERM body (done values) (content-most k (firstOf s) (secondOf k s) (table k .start) (restOf k s)) (done-most PERM values)))
+
+-- and so does the check of choices
+choice-most : (n at : ℕ) (choice : List ℕ) → UpTo PERM (choiceCheck n at choice)
+unfolding choiceCheck
+choice-most n at choice =
+    let vector = vectorOf n choice in
+    let permutation = permutationOf n choice in
+    first-most PERM (values CHOICES at vector) (permutations CHOICES n (at + n) 1 permutation) (values-most CHOICES at vector)
+    (permutations-most CHOICES n (at + n) 1 permutation)
+
+pub choices-most : (n N : ℕ) (choices : List ℕ) → UpTo PERM (choicesCheck n N choices)
+unfolding choicesCheck
+choices-most n N choices =
+    test-most (eqb (length choices) (N * choiceSize n)) SHAPE CHOICES 0 (firstBelow N (choiceAt n choices)) (omega arith) (omega arith)
+    (below-most PERM N (choiceAt n choices) (λ k. choice-most n (k * choiceSize n) (choiceOf choices n k)))
 
 -- ---- writers
 

@@ -61,26 +61,32 @@ pub first-refused : (a b : Told) (k l p : ℕ) → first a b ≡ refused k l p �
 first-refused (done v) b k l p e = inr ((v, refl), e)
 first-refused (refused x y z) b k l p e = inl e
 
--- ---- the numbers that a chain refuses by
+-- ---- the numbers that a chain refuses by: document 01's start at 1
 
-abbrev pub AtMost : ℕ → Told → Type 0
-AtMost most a = (k l p : ℕ) → a ≡ refused k l p → k ≤ most
+abbrev pub UpTo : ℕ → Told → Type 0
+UpTo most a = (k l p : ℕ) → a ≡ refused k l p → (1 ≤ k) × (k ≤ most)
 
-pub done-most : (most : ℕ) (values : List ℕ) → AtMost most (done values)
+pub done-most : (most : ℕ) (values : List ℕ) → UpTo most (done values)
 done-most most values k l p e = let z : _≡_ {A = ℕ} 0 1 = cc in absurd (omega arith)
 
-pub demand-most : (most : ℕ) (test : Bool) (x y z : ℕ) → x ≤ most → AtMost most (demand test x y z)
-demand-most most true x y z h k l p e = done-most most [] k l p e
-demand-most most false x y z h k l p e = let q : x ≡ k = cc in omega arith
+pub demand-most : (most : ℕ) (test : Bool) (x y z : ℕ) → 1 ≤ x → x ≤ most → UpTo most (demand test x y z)
+demand-most most true x y z g h k l p e = done-most most [] k l p e
+demand-most most false x y z g h k l p e = let q : x ≡ k = cc in (omega arith, omega arith)
 
-pub first-most : (most : ℕ) (a b : Told) → AtMost most a → AtMost most b → AtMost most (first a b)
+pub first-most : (most : ℕ) (a b : Told) → UpTo most a → UpTo most b → UpTo most (first a b)
 first-most most (done v) b f g = g
 first-most most (refused x y z) b f g = f
 
-pub below-most : (most n : ℕ) (f : ℕ → Told) → ((k : ℕ) → AtMost most (f k)) → AtMost most (firstBelow n f)
+pub below-most : (most n : ℕ) (f : ℕ → Told) → ((k : ℕ) → UpTo most (f k)) → UpTo most (firstBelow n f)
 unfolding firstBelow
 below-most most zero f h = done-most most []
 below-most most (suc n) f h = first-most most (firstBelow n f) (f n) (below-most most n f h) (h n)
+
+pub most-more : (few most : ℕ) (a : Told) → few ≤ most → UpTo few a → UpTo most a
+most-more few most a h f k l p e =
+    let x = f k l p e .0 in
+    let y = f k l p e .1 in
+    (omega arith, omega arith)
 
 -- ---- the first refusal below n, as a loop goes through it: at the place k none was found before
 

@@ -15,7 +15,7 @@ use Rattle.refusals.specs.declared.Refusal.{Refusal}
 use Rattle.refusals.specs.Number.{PERM, WEAK}
 use Rattle.refusals.specs.Buffer.{NONE, OPENINGS}
 use Rattle.refusals.specs.Told.{Told, done, refused, fine, first, demand}
-use Rattle.refusals.proofs.Chain.{Passed, first-done, first-refused, demand-done, AtMost, done-most, demand-most, first-most}
+use Rattle.refusals.proofs.Chain.{Passed, first-done, first-refused, demand-done, UpTo, done-most, demand-most, first-most}
 use Rattle.frames.specs.declared.kind.Kind.the-variants.{System, Public, Commitments, Challenges, Answers, Bits, Openings}
 use Rattle.frames.specs.Kinds.{alone, ofPlaces, exactly}
 use Rattle.frames.specs.Reading.{reading}
@@ -62,7 +62,7 @@ frames-fine x h =
     )
 
 -- frames refuse by the numbers up to PERM alone
-frames-most : (x : SignOn) → AtMost PERM (framesCheck x)
+frames-most : (x : SignOn) → UpTo PERM (framesCheck x)
 unfolding framesCheck basisCheck exchangeCheck
 frames-most x =
     let n = placesIn x in
@@ -188,12 +188,12 @@ module _ (grade : ℕ) (x : SignOn) where
           )
 
       past-grade : FramesFit x → (weak ≡ refused (numberOf bit) b r) ⊎ (Passed weak × (roundsCheck x ≡ refused (numberOf bit) b r)) → (OPENINGS ≡ b) × Fails grade x bit r
-      past-grade f (inl q) = let m = demand-most WEAK (enough grade (roundsIn x)) WEAK NONE 0 (omega arith) (numberOf bit) b r q in let l = number-late bit in absurd (omega arith)
+      past-grade f (inl q) = let m = demand-most WEAK (enough grade (roundsIn x)) WEAK NONE 0 (omega arith) (omega arith) (numberOf bit) b r q .1 in let l = number-late bit in absurd (omega arith)
       past-grade f (inr (p, q)) = past-all f (demand-done (enough grade (roundsIn x)) WEAK NONE 0 (p .0) (p .1)) q
 
       past-frames : (framesCheck x ≡ refused (numberOf bit) b r) ⊎ (Passed (framesCheck x) × (first weak (roundsCheck x) ≡ refused (numberOf bit) b r))
           → (OPENINGS ≡ b) × Fails grade x bit r
-      past-frames (inl q) = let m = frames-most x (numberOf bit) b r q in let l = number-late bit in absurd (omega arith)
+      past-frames (inl q) = let m = frames-most x (numberOf bit) b r q .1 in let l = number-late bit in absurd (omega arith)
       past-frames (inr (p, q)) = past-grade (frames-told x (p .0) (p .1)) (first-refused weak (roundsCheck x) (numberOf bit) b r q)
 
   pub failed← : (bit : Bool) (r : ℕ) → Fails grade x bit r → judging grade x ≡ refused (numberOf bit) OPENINGS r

@@ -1,0 +1,3 @@
+-- What the C functions answer, and what the card's keep and write.
+pub mod Answers
+pub mod Card

@@ -1,0 +1,13 @@
+// The host's boundary: C functions over memory that the host lends.
+pub mod answers;
+pub mod session;
+pub mod steps;
+
+// What a call answers in C: a success has number 0, buffer 0 and its value as its place (0 where it has none), a refusal its number,
+// buffer and place.
+#[repr(C)]
+pub struct Answer {
+    pub number: u8,
+    pub buffer: u8,
+    pub place: u64,
+}

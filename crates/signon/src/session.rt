@@ -1,0 +1,78 @@
+// The card's calls as C functions: the host lends the record, and each call moves it on. Each is thin, since its proof is written out by
+// hand (tools/signon_walks.py): the record is copied out, the step is called, the next record is stored.
+use crate::Answer;
+use crate::steps::answer_for_c;
+use crate::steps::begin_for_c;
+use crate::steps::open_for_c;
+use card::give_up::give_up_step;
+use card_checks::session::Session;
+ghost use Rattle.card.specs.Steps.{GiveUpStep};
+ghost use Rattle.card_checks.specs.Keys.{keys};
+ghost use Rattle.signon.specs.Card.{BeginForC, AnswerForC, OpenForC};
+
+// From idle or closed to committed: all commitments are written.
+#[no_mangle]
+pub extern "C" fn signon_begin(
+    session: &mut Session,
+    rounds: usize,
+    system: &[u8],
+    public: &[u8],
+    secret: &[u8],
+    choices: &[u8],
+    out: &mut [u8],
+) -> Answer
+    ensures { λ r. ⌜ BeginForC (now (session .entry)) rounds (keys (now (system .entry)) (now (public .entry)) (now (secret .entry))) (now (choices .entry)) (now (out .entry)) r (now (session .exit)) (now (out .exit)) ⌝ }
+{
+    let old = *session;
+    let step = begin_for_c(old, rounds, system, public, secret, choices, out);
+    *session = step.next;
+    step.told
+}
+
+// From committed to answered: all first answers are written. The message holds the challenges.
+#[no_mangle]
+pub extern "C" fn signon_answer_challenges(
+    session: &mut Session,
+    system: &[u8],
+    public: &[u8],
+    secret: &[u8],
+    message: &[u8],
+    choices: &[u8],
+    out: &mut [u8],
+) -> Answer
+    ensures { λ r. ⌜ AnswerForC (now (session .entry)) (keys (now (system .entry)) (now (public .entry)) (now (secret .entry))) (now (message .entry)) (now (choices .entry)) (now (out .entry)) r (now (session .exit)) (now (out .exit)) ⌝ }
+{
+    let old = *session;
+    let step = answer_for_c(old, system, public, secret, message, choices, out);
+    *session = step.next;
+    step.told
+}
+
+// From answered to closed: all openings are written, and the choices zeroed. The message holds the bits.
+#[no_mangle]
+pub extern "C" fn signon_open(
+    session: &mut Session,
+    system: &[u8],
+    public: &[u8],
+    secret: &[u8],
+    message: &[u8],
+    choices: &mut [u8],
+    out: &mut [u8],
+) -> Answer
+    ensures { λ r. ⌜ OpenForC (now (session .entry)) (keys (now (system .entry)) (now (public .entry)) (now (secret .entry))) (now (message .entry)) (now (choices .entry)) (now (out .entry)) r (now (session .exit)) (now (choices .exit)) (now (out .exit)) ⌝ }
+{
+    let old = *session;
+    let step = open_for_c(old, system, public, secret, message, choices, out);
+    *session = step.next;
+    step.told
+}
+
+// Record and choices are zeroed. Never refused.
+#[no_mangle]
+pub extern "C" fn signon_give_up(session: &mut Session, choices: &mut [u8])
+    ensures { λ _. ⌜ GiveUpStep (now (session .entry)) (now (choices .entry)) (now (session .exit)) (now (choices .exit)) ⌝ }
+{
+    let old = *session;
+    let next = give_up_step(old, choices);
+    *session = next;
+}

@@ -1,0 +1,77 @@
+#!/usr/bin/env python3
+"""Writes the proofs of the four C functions over the lent record (crates/signon/src/session.rt). Run it again where a signature changes:
+
+    python3 tools/signon_walks.py            writes them
+    python3 tools/signon_walks.py --check    exit status 1 where one is not as it would be written
+"""
+import sys
+from pathlib import Path
+
+from thin import LENT, SHARED, Walk
+
+ROOT = Path(__file__).resolve().parents[1]
+RECORD = "card_checks::session::Session"
+KEYS = [("system", SHARED), ("public", SHARED), ("secret", SHARED)]
+ALL_KEYS = "(keys {system} {public} {secret})"
+USE_KEYS = "use Rattle.card_checks.specs.Keys.{keys}"
+
+
+def stepping(name, step, signature, contract, fact):
+    """A call that answers: the contract is a record of specs/Card.antt."""
+    uses = [USE_KEYS, f"use Rattle.signon.specs.Card.{{{contract}}}"]
+    types = {"answer": "signon::steps::Stepped", "told": "signon::Answer"}
+    return Walk(f"signon::session::{name}", f"signon::steps::{step}", RECORD, signature, f"{contract} {fact}", uses, **types)
+
+
+WALKS = [
+    stepping(
+        "signon_begin",
+        "begin_for_c",
+        [("rounds", "usize"), *KEYS, ("choices", SHARED), ("out", LENT)],
+        "BeginForC",
+        "{record} {rounds} " + ALL_KEYS + " {choices} {out} {told} {next} {out_after}",
+    ),
+    stepping(
+        "signon_answer_challenges",
+        "answer_for_c",
+        [*KEYS, ("message", SHARED), ("choices", SHARED), ("out", LENT)],
+        "AnswerForC",
+        "{record} " + ALL_KEYS + " {message} {choices} {out} {told} {next} {out_after}",
+    ),
+    stepping(
+        "signon_open",
+        "open_for_c",
+        [*KEYS, ("message", SHARED), ("choices", LENT), ("out", LENT)],
+        "OpenForC",
+        "{record} " + ALL_KEYS + " {message} {choices} {out} {told} {next} {choices_after} {out_after}",
+    ),
+    Walk(
+        "signon::session::signon_give_up",
+        "card::give_up::give_up_step",
+        RECORD,
+        [("choices", LENT)],
+        "GiveUpStep {record} {choices} {next} {choices_after}",
+        ["use Rattle.card.specs.Steps.{GiveUpStep}"],
+    ),
+]
+
+
+def place_of(walk):
+    _, *inner = walk.thin.parts
+    return ROOT.joinpath("crates", "signon", "proofs", *inner, "Proof.antt")
+
+
+def write():
+    for walk in WALKS:
+        place_of(walk).write_text(walk.text(), encoding="utf-8")
+
+
+def check():
+    others = [walk.thin.path for walk in WALKS if place_of(walk).read_text(encoding="utf-8") != walk.text()]
+    for path in others:
+        print(f"{path}: its proof is not what this script writes")
+    sys.exit(1 if others else 0)
+
+
+if __name__ == "__main__":
+    check() if "--check" in sys.argv[1:] else write()
