@@ -1,19 +1,13 @@
 // The verdict over the verdict program's input as a C function, for the benchmark.
 use register::Verdict;
 use register::cut::judge;
+use signon::Answer;
 ghost use mathlib.Core.Path.{_≡_};
 ghost use Rattle.register.specs.Cutting.{judgingInput};
 ghost use Rattle.register.specs.Verdict.{verdictMeans};
-ghost use Rattle.register_for_c.specs.Answers.{answerOf};
+ghost use Rattle.signon.specs.Answers.{answerOf};
 
-// A verdict as C takes it: an accepted one has number 0, buffer 0 and N as its place.
-#[repr(C)]
-pub struct Answer {
-    pub number: u8,
-    pub buffer: u8,
-    pub place: u64,
-}
-
+// The answer of a verdict.
 fn answer_of(v: Verdict) -> Answer
     ensures { λ r. ⌜ r ≡ answerOf (verdictMeans v) ⌝ }
 {

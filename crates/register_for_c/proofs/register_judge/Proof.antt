@@ -1,7 +1,7 @@
 -- `register_judge` hands on the verdict of `judge`, whose contract fixes it.
 use mathlib.Core.Path.{ap, _∙_}
 use borrow.Author.Needs.{needs}
-use Rattle.register_for_c.specs.Answers.{answerOf}
+use Rattle.signon.specs.Answers.{answerOf}
 use Rattle.register_for_c.proofs.register_judge.Statement.{statement}
 use Rattle.register_for_c.proofs.register_judge.Tie as tie
 

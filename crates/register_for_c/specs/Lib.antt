@@ -1,2 +1,0 @@
--- What the C function answers.
-pub mod Answers
