@@ -1,20 +1,19 @@
 -- A byte that is drawn is below the limit, and no value is favoured: by one test over all 256 bytes.
-use mathlib.Core.Path.{_≡_, refl, sym, ap, _∙_}
-use mathlib.Core.Bool.{Bool, true, false, cond, _&&_}
+use mathlib.Core.Path.{_≡_, refl, ap, _∙_}
+use mathlib.Core.Bool.{Bool, true, false, cond}
 use mathlib.Core.List.{List, [], _∷_, _++_}
 use Prim.Native.Nat.{ℕ, zero, suc, _+_, _/_, _%_, _≤_, _<_}
-use native.Mathlib.Nat.{zero-add}
 use native.Mathlib.Omega.{arith}
-use borrow.Author.Tests.{ltb-true, eqb-true}
-use lib.Dec.{eqb, ltb}
+use borrow.Author.Tests.{ltb-true}
+use lib.Dec.{ltb}
 use lib.ListN.{length, getD}
 use Rattle.algebra.specs.declared.draw.Drawn.{Drawn}
 use Rattle.algebra.specs.declared.draw.Drawn.the-variants.{Got, RanOut}
-use Rattle.algebra.specs.Lists.{tab, allBelow, count}
+use Rattle.algebra.specs.Lists.{tab, allBelow, count, sameBytes}
 use Rattle.algebra.specs.Residues.{modulus}
 use Rattle.algebra.specs.Permutations.{longest, identity}
 use Rattle.algebra.specs.Drawings.{drawLeft, drawBelow, largestMultiple}
-use Rattle.algebra.proofs.Lists.{allBelow-at, &&-left, &&-right}
+use Rattle.algebra.proofs.Lists.{allBelow-at, same-true, count-append}
 use Rattle.algebra.proofs.Drawings.{draw-hit}
 use Rattle.algebra.proofs.Permutations.{identity-perm}
 
@@ -59,38 +58,17 @@ repeated : ℕ → List ℕ → List ℕ
 repeated zero l = []
 repeated (suc n) l = l ++ repeated n l
 
-same : List ℕ → List ℕ → Bool
-same [] [] = true
-same [] (y ∷ ys) = false
-same (x ∷ xs) [] = false
-same (x ∷ xs) (y ∷ ys) = eqb x y && same xs ys
-
-same-true : (s t : List ℕ) → same s t ≡ true → s ≡ t
-unfolding same
-same-true [] [] e = refl
-same-true [] (y ∷ ys) e = let z : _≡_ {A = ℕ} 0 1 = cc in absurd (omega arith)
-same-true (x ∷ xs) [] e = let z : _≡_ {A = ℕ} 0 1 = cc in absurd (omega arith)
-same-true (x ∷ xs) (y ∷ ys) e =
-    let a = eqb-true x y (&&-left (eqb x y) (same xs ys) e) in
-    let b = same-true xs ys (&&-right (eqb x y) (same xs ys) e) in
-    cc
-
 -- from k places, the bytes give 0 to k - 1 in order, as often as k goes into 256
 in-order : ℕ → Bool
-in-order i = same (ofAllBytes (largestMultiple (i + 1)) (i + 1)) (repeated (256 / (i + 1)) (identity (i + 1)))
+in-order i = sameBytes (ofAllBytes (largestMultiple (i + 1)) (i + 1)) (repeated (256 / (i + 1)) (identity (i + 1)))
 
 all-in-order : allBelow longest in-order ≡ true
-unfolding allBelow in-order same remainders repeated drawBelow drawLeft identity tab
+unfolding allBelow in-order sameBytes remainders repeated drawBelow drawLeft identity tab
 all-in-order = refl
 
 residues-in-order : ofAllBytes modulus modulus ≡ identity modulus
 unfolding remainders drawBelow drawLeft identity tab
 residues-in-order = refl
-
-count-append : (x : ℕ) (s t : List ℕ) → count x (s ++ t) ≡ count x s + count x t
-unfolding count
-count-append x [] t = sym (zero-add (count x t))
-count-append x (y ∷ s) t = let a = count-append x s t in omega arith
 
 count-repeated : (x n : ℕ) (l : List ℕ) → count x l ≡ 1 → count x (repeated n l) ≡ n
 unfolding count repeated

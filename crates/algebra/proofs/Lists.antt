@@ -7,14 +7,41 @@ use native.Mathlib.Nat.{not-suc-le-zero, le-refl, le-trans, le-of-eq, zero-mul, 
 use native.Mathlib.Numerals.{add-one}
 use native.Mathlib.Decide.{ℕ-discrete}
 use native.Mathlib.Omega.{arith}
+use borrow.Author.Tests.{eqb-true, eq-eqb}
+use lib.Dec.{eqb}
 use lib.ListN.{length, getD, take, drop, set, length-append, length-take, length-drop, length-set, take-append-drop, List·getD-append}
 use borrow.Rule.Slice.PartMut.{putMid, midOf}
 use lib.Seq.{take-all, take-append-le, take-at, drop-at, drop-cons, drop-drop, drop-append-le, set-at, append-snoc, getD-at, ext-getD}
-use Rattle.algebra.specs.Lists.{tab, allBelow, firstFrom, stretch, joined, over, overAt}
+use Rattle.algebra.specs.Lists.{tab, allBelow, sameBytes, count, firstFrom, stretch, joined, over, overAt}
 
 -- two lists of n are equal by their entries
 pub same-list : (n : ℕ) (s t : List ℕ) → length s ≡ n → length t ≡ n → ((j : ℕ) → j < n → getD s j 0 ≡ getD t j 0) → s ≡ t
 same-list n s t p q h = ext-getD 0 s t (p ∙ sym q) (λ i l. h i (subst (λ (z : ℕ). i < z) p l))
+
+-- ---- the comparison
+
+pub same-self : (x : List ℕ) → sameBytes x x ≡ true
+unfolding sameBytes
+same-self [] = refl
+same-self (x ∷ xs) = rw (eq-eqb x x refl) (same-self xs)
+
+pub same-true : (x y : List ℕ) → sameBytes x y ≡ true → x ≡ y
+unfolding sameBytes
+same-true [] [] e = refl
+same-true [] (y ∷ ys) e = absurd (false≢true e)
+same-true (x ∷ xs) [] e = absurd (false≢true e)
+same-true (x ∷ xs) (y ∷ ys) e = step (eqb x y) refl e (same-true xs ys)
+  where
+    step : (b : Bool) → eqb x y ≡ b → (b && sameBytes xs ys) ≡ true → (sameBytes xs ys ≡ true → xs ≡ ys) → x ∷ xs ≡ y ∷ ys
+    step true q t ih = rw (eqb-true x y q, ih t)
+    step false q t ih = absurd (false≢true t)
+
+-- ---- counts
+
+pub count-append : (x : ℕ) (s t : List ℕ) → count x (s ++ t) ≡ count x s + count x t
+unfolding count
+count-append x [] t = omega arith
+count-append x (y ∷ ys) t = let a = count-append x ys t in omega arith
 
 -- ---- tables
 

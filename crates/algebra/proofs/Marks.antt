@@ -1,7 +1,7 @@
 -- Laws for the test of a permutation by marks: a mark is set where its value was seen, and then it was seen once.
 use mathlib.Core.Path.{_≡_, refl, sym, ap, _∙_, subst}
 use mathlib.Core.Bool.{Bool, true, false, cond}
-use mathlib.Core.List.{List, [], _∷_, _++_}
+use mathlib.Core.List.{List, [], _∷_}
 use Prim.Native.Nat.{ℕ, zero, suc, _+_, _≤_, _<_}
 use native.Mathlib.Nat.{not-suc-le-zero, le-refl}
 use native.Mathlib.Numerals.{add-one}
@@ -13,15 +13,11 @@ use lib.ListN.{length, getD, take, drop, set, replicate, take-append-drop, getD-
 use lib.Seq.{take-all, take-suc, getD-set-same, getD-set-other}
 use Rattle.algebra.specs.Lists.{sumBelow, count}
 use Rattle.algebra.specs.Permutations.{longest, isPerm, IsPerm}
+use Rattle.algebra.proofs.Lists.{count-append}
 use Rattle.algebra.proofs.Sums.{sum-none, sum-one, sum-add}
 use Rattle.algebra.proofs.Permutations.{below, isPerm→, isPerm←}
 
 -- ---- counts
-
-count-append : (k : ℕ) (s t : List ℕ) → count k (s ++ t) ≡ count k s + count k t
-unfolding count
-count-append k [] t = omega arith
-count-append k (x ∷ xs) t = let a = count-append k xs t in omega arith
 
 count-take : (k : ℕ) (s : List ℕ) (i : ℕ) → i < length s
     → count k (take (i + 1) s) ≡ count k (take i s) + cond (eqb k (getD s i 0)) 1 0

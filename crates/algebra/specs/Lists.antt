@@ -1,5 +1,5 @@
 -- The vocabulary of lists. Places count from 0.
-use mathlib.Core.Bool.{Bool, true, cond, _&&_}
+use mathlib.Core.Bool.{Bool, true, false, cond, _&&_}
 use mathlib.Core.List.{List, [], _∷_, _++_}
 use Prim.Native.Nat.{ℕ, zero, suc, _+_, _*_}
 use lib.Dec.{eqb}
@@ -30,6 +30,13 @@ unfoldable pub count : ℕ → List ℕ → ℕ
 count x [] = 0
 count x (y ∷ ys) = cond (eqb x y) 1 0 + count x ys
 
+-- whether two lists are the same
+unfoldable pub sameBytes : List ℕ → List ℕ → Bool
+sameBytes [] [] = true
+sameBytes [] (y ∷ ys) = false
+sameBytes (x ∷ xs) [] = false
+sameBytes (x ∷ xs) (y ∷ ys) = eqb x y && sameBytes xs ys
+
 -- the stretch k of a list that is stretches of one size, one after the other
 unfoldable pub stretch : ℕ → ℕ → List ℕ → List ℕ
 stretch size k l = take size (drop (k * size) l)
@@ -46,3 +53,7 @@ over l d = l ++ drop (length l) d
 -- the same from the place a on
 unfoldable pub overAt : List ℕ → ℕ → List ℕ → List ℕ
 overAt l a d = take a d ++ over l (drop a d)
+
+-- offsets in a list are below this, far from what a usize holds
+abbrev pub offsets : ℕ
+offsets = 1048576

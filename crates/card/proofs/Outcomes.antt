@@ -9,10 +9,10 @@ use Rattle.refusals.specs.Number.{STAGE, SELF}
 use Rattle.refusals.specs.Buffer.{CHOICES}
 use Rattle.refusals.specs.Told.{Told, done, first}
 use Rattle.refusals.proofs.Chain.{first-done, UpTo, done-most, demand-most, first-most, most-more}
-use Rattle.frames.specs.declared.write.Written.{Written}
-use Rattle.frames.specs.declared.write.Written.the-variants.{Refused}
-use Rattle.frames.specs.Writing.{writtenMeans, outAfter}
-use Rattle.frames.proofs.Outcomes.{written-fixes}
+use Rattle.writers.specs.declared.Written.{Written}
+use Rattle.writers.specs.declared.Written.the-variants.{Refused}
+use Rattle.writers.specs.Writing.{writtenMeans, outAfter}
+use Rattle.writers.proofs.Outcomes.{written-fixes}
 use Rattle.card_checks.specs.declared.session.Session.{Session}
 use Rattle.card_checks.specs.Keys.{Keys, placesOf}
 use Rattle.card_checks.specs.Asking.{commitmentsSize, answersSize, openingsSize, beginCheck, answerCheck, openCheck}

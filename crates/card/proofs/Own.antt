@@ -10,7 +10,7 @@ use lib.ListN.{getD}
 use Rattle.algebra.specs.Lists.{firstFrom}
 use Rattle.algebra.proofs.Lists.{Found, found}
 use Rattle.sha256.specs.Standard.{digestOf}
-use Rattle.frames.specs.PackedBits.{bitAt}
+use Rattle.packed_bits.specs.PackedBits.{bitAt}
 use Rattle.round.specs.Round.{System, Sound, ValidKey, Pair, firstAnswer, opening, Honest, opened, openedOf, passes}
 use Rattle.round.proofs.Laws.{honest-shows, honest-passes}
 use Rattle.rounds.specs.Layout.{pairAt, AllWell}

@@ -14,10 +14,10 @@ use Rattle.frames.specs.declared.kind.Kind.the-variants.{System, Public, Secret
 use Rattle.frames.specs.Kinds.{exactly, table}
 use Rattle.frames.specs.Reading.{restOf}
 use Rattle.frames.specs.Choosing.{choiceSize}
-use Rattle.frames.specs.Writing.{heading, frame}
+use Rattle.writers.specs.Writing.{heading, frame}
 use Rattle.frames.proofs.Facts.{rest-length, FrameFits, first-asked}
 use Rattle.frames.proofs.Orders.{from, rest-part}
-use Rattle.frames.proofs.Writing.{framed}
+use Rattle.writers.proofs.Writing.{framed}
 use Rattle.round.specs.Round.{systemOf}
 use Rattle.rounds.specs.Layout.{CardFits}
 use Rattle.rounds.specs.Rounds.{commitmentsAt, answerAt, openingAt}

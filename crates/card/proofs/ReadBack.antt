@@ -15,13 +15,13 @@ use Rattle.algebra.proofs.Lists.{length-joined, stretch-joined}
 use Rattle.algebra.proofs.Vectors.{residues-joined}
 use Rattle.frames.specs.declared.kind.Kind.{Kind}
 use Rattle.frames.specs.declared.kind.Kind.the-variants.{Commitments, Challenges, Answers, Bits, Openings}
-use Rattle.frames.specs.Kinds.{limits, within, alone, table}
+use Rattle.frames.specs.Kinds.{limits, within, alone, table, frameSize}
 use Rattle.frames.specs.Reading.{restOf, reading}
-use Rattle.frames.specs.Writing.{frame, frameSize}
-use Rattle.frames.specs.PackedBits.{bitAt}
-use Rattle.frames.proofs.Writing.{Plain}
+use Rattle.writers.specs.Writing.{frame}
+use Rattle.packed_bits.specs.PackedBits.{bitAt}
+use Rattle.writers.proofs.Writing.{Plain}
 use Rattle.frames.proofs.Passing.{residues-pass, permutations-pass}
-use Rattle.frames.proofs.Spelling.{Spells, written-read, frame-spells}
+use Rattle.writers.proofs.Spelling.{Spells, written-read, frame-spells}
 use Rattle.round.specs.Round.{honest}
 use Rattle.round.proofs.Laws.{honest-shows}
 use Rattle.rounds.specs.Layout.{pairAt, messages}

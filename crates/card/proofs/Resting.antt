@@ -9,10 +9,10 @@ use Rattle.refusals.specs.Number.{PERM, STAGE}
 use Rattle.refusals.specs.Buffer.{NONE, CHOICES}
 use Rattle.refusals.specs.Told.{done, refused, fine}
 use Rattle.refusals.proofs.Chain.{first-done}
-use Rattle.frames.specs.declared.write.Written.{Written}
-use Rattle.frames.specs.declared.write.Written.the-variants.{Wrote, Refused}
+use Rattle.writers.specs.declared.Written.{Written}
+use Rattle.writers.specs.declared.Written.the-variants.{Wrote, Refused}
 use Rattle.frames.specs.Kinds.{within, alone}
-use Rattle.frames.specs.Writing.{writtenMeans}
+use Rattle.writers.specs.Writing.{writtenMeans}
 use Rattle.frames.specs.Choosing.{choiceSize}
 use Rattle.frames.proofs.Facts.{within-told}
 use Rattle.frames.proofs.Chosen.{Zeros, zeros-refused, zeros-not-chosen}

@@ -7,10 +7,10 @@ use Rattle.refusals.specs.Told.{done}
 use Rattle.refusals.proofs.Chain.{first-done}
 use Rattle.algebra.specs.Lists.{over}
 use Rattle.frames.specs.declared.kind.Kind.the-variants.{Commitments, Challenges, Answers, Openings}
-use Rattle.frames.specs.declared.write.Written.{Written}
-use Rattle.frames.specs.declared.write.Written.the-variants.{Wrote}
+use Rattle.writers.specs.declared.Written.{Written}
+use Rattle.writers.specs.declared.Written.the-variants.{Wrote}
 use Rattle.frames.specs.Reading.{restOf}
-use Rattle.frames.specs.Writing.{frame, writtenMeans, outAfter}
+use Rattle.writers.specs.Writing.{frame, writtenMeans, outAfter}
 use Rattle.card_checks.specs.declared.session.Session.{Session}
 use Rattle.card_checks.specs.Keys.{Keys, placesOf}
 use Rattle.card_checks.specs.Asking.{commitmentsSize, answersSize, openingsSize, beginCheck, answerCheck}

@@ -4,7 +4,7 @@ use mathlib.Core.List.{List}
 use Prim.Native.Nat.{ℕ}
 use lib.ListN.{getD}
 use Rattle.algebra.specs.Lists.{firstFrom}
-use Rattle.frames.specs.PackedBits.{bitAt}
+use Rattle.packed_bits.specs.PackedBits.{bitAt}
 use Rattle.round.specs.Round.{System, Pair, committed0, committed1, honest, openedOf, passes}
 use Rattle.rounds.specs.Layout.{pairAt}
 

@@ -10,10 +10,10 @@ use Rattle.refusals.specs.Told.{Told, done, first, demand}
 use Rattle.algebra.specs.Lists.{joined, over}
 use Rattle.algebra.specs.Residues.{modulus}
 use Rattle.frames.specs.declared.kind.Kind.the-variants.{Commitments, Challenges, Answers, Bits, Openings}
-use Rattle.frames.specs.declared.write.Written.{Written}
-use Rattle.frames.specs.declared.write.Written.the-variants.{Wrote, Refused}
+use Rattle.writers.specs.declared.Written.{Written}
+use Rattle.writers.specs.declared.Written.the-variants.{Wrote, Refused}
 use Rattle.frames.specs.Reading.{restOf}
-use Rattle.frames.specs.Writing.{frame, writtenMeans, outAfter}
+use Rattle.writers.specs.Writing.{frame, writtenMeans, outAfter}
 use Rattle.rounds.specs.Rounds.{commitmentsAt, answerAt, openingAt}
 use Rattle.card_checks.specs.declared.session.Session.{Session}
 use Rattle.card_checks.specs.Stages.{IDLE, COMMITTED, ANSWERED, CLOSED}

@@ -1,6 +1,6 @@
 // The card: begin, answer, open and give up, by value. A step is given the record and answers what came and the next record.
 use card_checks::session::Session;
-use frames::write::Written;
+use writers::Written;
 
 pub mod answer;
 pub mod begin;

@@ -1,6 +1,6 @@
 // The card's own check: commitments and first answers formed anew, round by round, and looked at as the register would.
 use algebra::LONGEST;
-use frames::bits::bit_at;
+use packed_bits::bit_at;
 use round::card::commitment_one;
 use round::card::commitment_zero;
 use round::card::first_answer_into;

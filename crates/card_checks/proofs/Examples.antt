@@ -10,7 +10,7 @@ use Rattle.refusals.specs.Told.{refused, fine, firstBelow}
 use Rattle.algebra.specs.Lists.{tab, sumBelow, allBelow, firstFrom, count, stretch}
 use Rattle.algebra.specs.Permutations.{isPerm, permute}
 use Rattle.algebra.specs.Matrices.{rowTimes, keyFault}
-use Rattle.frames.specs.PackedBits.{bitAt, unusedClear}
+use Rattle.packed_bits.specs.PackedBits.{bitAt, unusedClear}
 use Rattle.frames.specs.Reading.{header, shape, values, permutations, reading}
 use Rattle.frames.specs.Choosing.{vectorOf, permutationOf, choiceCheck, choicesCheck}
 use Rattle.card_checks.specs.declared.session.Session.{Session}

@@ -1,15 +1,14 @@
 -- No second outcome fits what the key check promises. It writes nothing. And the numbers that begin, answer and open refuse by.
 use mathlib.Core.Path.{_≡_, sym, _∙_}
-use mathlib.Core.Bool.{Bool}
 use mathlib.Core.List.{List, []}
-use Prim.Native.Nat.{ℕ, _≤_}
+use Prim.Native.Nat.{ℕ}
 use native.Mathlib.Omega.{arith}
 use lib.Dec.{eqb, leb}
 use Rattle.refusals.specs.declared.Checked.{Checked}
 use Rattle.refusals.specs.Number.{SHAPE, PERM, KEY, ROOM, STAGE}
 use Rattle.refusals.specs.Buffer.{NONE, SECRET, OUTPUT}
 use Rattle.refusals.specs.Told.{Told, fine, first, demand}
-use Rattle.refusals.proofs.Chain.{means-fixes, UpTo, done-most, demand-most, first-most, most-more}
+use Rattle.refusals.proofs.Chain.{means-fixes, UpTo, done-most, demand-most, first-most, most-more, test-most}
 use Rattle.frames.specs.declared.kind.Kind.{Kind}
 use Rattle.frames.specs.declared.kind.Kind.the-variants.{System, Public, Secret, Challenges, Bits}
 use Rattle.frames.specs.declared.kind.Expected.{Expected}
@@ -29,8 +28,6 @@ one-key-check k a b p q = means-fixes a b (p .says ∙ sym (q .says))
 -- ---- the numbers up to STAGE
 
 -- a test, and a frame, in front of a chain
-test-most : (test : Bool) (x y z : ℕ) (rest : Told) → 1 ≤ x → x ≤ STAGE → UpTo STAGE rest → UpTo STAGE (first (demand test x y z) rest)
-test-most test x y z rest g h = first-most STAGE (demand test x y z) rest (demand-most STAGE test x y z g h)
 
 frame-most : (k : Kind) (e : Expected) (s : List ℕ) (rest : Told) → UpTo STAGE rest → UpTo STAGE (first (reading k e s) rest)
 frame-most k e s rest = first-most STAGE (reading k e s) rest (most-more PERM STAGE (reading k e s) (omega arith) (reading-most k e s))
@@ -52,7 +49,7 @@ rest-most k N choices need room =
     let r2 : Told = first (validCheck k) r3 in
     let h : UpTo STAGE (first (choicesCheck n N choices) r2) =
     first-most STAGE (choicesCheck n N choices) r2 (most-more PERM STAGE (choicesCheck n N choices) (omega arith) (choices-most n N choices))
-    (test-most (eqb (faultOf k) (rowsOf k)) KEY SECRET (faultOf k) r3 (omega arith) (omega arith)
+    (test-most STAGE (eqb (faultOf k) (rowsOf k)) KEY SECRET (faultOf k) r3 (omega arith) (omega arith)
     (demand-most STAGE (leb need room) ROOM OUTPUT need (omega arith) (omega arith))) in
     rw (rest-in-order k N choices need room) h
 
@@ -62,8 +59,8 @@ begin-most s N k choices room =
     let r4 : Told = restCheck k N choices (commitmentsSize N) room in
     let r3 : Told = first (keysCheck k) r4 in
     let r2 : Told = first (demand (within (alone .rounds) N) SHAPE NONE 0) r3 in
-    test-most (atRest (s .stage)) STAGE NONE 0 r2 (omega arith) (omega arith)
-    (test-most (within (alone .rounds) N) SHAPE NONE 0 r3 (omega arith) (omega arith)
+    test-most STAGE (atRest (s .stage)) STAGE NONE 0 r2 (omega arith) (omega arith)
+    (test-most STAGE (within (alone .rounds) N) SHAPE NONE 0 r3 (omega arith) (omega arith)
     (keys-most k r4 (rest-most k N choices (commitmentsSize N) room)))
 
 module _ (s : Session) (k : Keys) (message choices : List ℕ) (room : ℕ) where
@@ -75,9 +72,9 @@ module _ (s : Session) (k : Keys) (message choices : List ℕ) (room : ℕ) wher
       let r5 : Told = restCheck k N choices (answersSize n N) room in
       let r4 : Told = first (reading Challenges (exactly n N) message) r5 in
       let r3 : Told = first (staged (recordFits s n (rowsOf k))) r4 in
-      test-most (eqb (s .stage) COMMITTED) STAGE NONE 0 (first (keysCheck k) r3) (omega arith) (omega arith)
+      test-most STAGE (eqb (s .stage) COMMITTED) STAGE NONE 0 (first (keysCheck k) r3) (omega arith) (omega arith)
       (keys-most k r3
-      (test-most (recordFits s n (rowsOf k)) STAGE NONE 0 r4 (omega arith) (omega arith)
+      (test-most STAGE (recordFits s n (rowsOf k)) STAGE NONE 0 r4 (omega arith) (omega arith)
       (frame-most Challenges (exactly n N) message r5 (rest-most k N choices (answersSize n N) room))))
 
   pub open-most : UpTo STAGE (openCheck s k message choices room)
@@ -89,9 +86,9 @@ module _ (s : Session) (k : Keys) (message choices : List ℕ) (room : ℕ) wher
       let r4 : Told = first (staged (keptFit N (s .challenges))) r5 in
       let r3 : Told = first (staged (recordFits s n (rowsOf k))) r4 in
       let h : UpTo STAGE (first (staged (eqb (s .stage) ANSWERED)) (first (keysCheck k) r3)) =
-      test-most (eqb (s .stage) ANSWERED) STAGE NONE 0 (first (keysCheck k) r3) (omega arith) (omega arith)
+      test-most STAGE (eqb (s .stage) ANSWERED) STAGE NONE 0 (first (keysCheck k) r3) (omega arith) (omega arith)
       (keys-most k r3
-      (test-most (recordFits s n (rowsOf k)) STAGE NONE 0 r4 (omega arith) (omega arith)
-      (test-most (keptFit N (s .challenges)) STAGE NONE 0 r5 (omega arith) (omega arith)
+      (test-most STAGE (recordFits s n (rowsOf k)) STAGE NONE 0 r4 (omega arith) (omega arith)
+      (test-most STAGE (keptFit N (s .challenges)) STAGE NONE 0 r5 (omega arith) (omega arith)
       (frame-most Bits (exactly n N) message r6 (rest-most k N choices (openingsSize n N) room))))) in
       rw (open-in-order s k message choices room) h

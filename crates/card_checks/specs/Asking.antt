@@ -10,9 +10,8 @@ use Rattle.refusals.specs.Told.{Told, first, demand}
 use Rattle.algebra.specs.Lists.{allBelow}
 use Rattle.algebra.specs.Residues.{modulus}
 use Rattle.frames.specs.declared.kind.Kind.the-variants.{Commitments, Challenges, Answers, Bits, Openings}
-use Rattle.frames.specs.Kinds.{within, alone, exactly}
+use Rattle.frames.specs.Kinds.{within, alone, exactly, frameSize}
 use Rattle.frames.specs.Reading.{reading}
-use Rattle.frames.specs.Writing.{frameSize}
 use Rattle.frames.specs.Choosing.{choicesCheck}
 use Rattle.card_checks.specs.declared.session.Session.{Session}
 use Rattle.card_checks.specs.Stages.{IDLE, COMMITTED, ANSWERED, CLOSED}

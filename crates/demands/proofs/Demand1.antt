@@ -12,11 +12,12 @@ use Rattle.algebra.specs.Drawings.{Drawing}
 use Rattle.sha256.specs.Call.{Hashes}
 use Rattle.sha256.proofs.Call.{one-outcome}
 use Rattle.frames.specs.declared.kind.Kind.{Kind}
-use Rattle.frames.specs.declared.write.Written.the-variants.{Refused}
+use Rattle.writers.specs.declared.Written.the-variants.{Refused}
 use Rattle.frames.specs.Kinds.{alone}
 use Rattle.frames.specs.Reading.{Reads, openingCheck}
-use Rattle.frames.specs.Writing.{Writes}
-use Rattle.frames.proofs.Outcomes.{one-reading, one-writing, refused-writes-nothing, one-opening-check}
+use Rattle.writers.specs.Writing.{Writes}
+use Rattle.frames.proofs.Outcomes.{one-reading, one-opening-check}
+use Rattle.writers.proofs.Outcomes.{one-writing, refused-writes-nothing}
 use Rattle.draw.specs.declared.Taken.the-variants.{Refused as NotTaken}
 use Rattle.draw.specs.Telling.{Draws}
 use Rattle.draw.proofs.Outcomes.{one-drawing, refused-draws-nothing}

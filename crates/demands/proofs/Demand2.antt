@@ -15,10 +15,10 @@ use Rattle.algebra.proofs.Lists.{front}
 use Rattle.frames.specs.declared.kind.Kind.{Kind}
 use Rattle.frames.specs.declared.kind.Kind.the-variants.{Commitments, Challenges, Answers, Bits, Openings}
 use Rattle.frames.specs.declared.kind.Expected.{Expected}
-use Rattle.frames.specs.declared.write.Written.the-variants.{Wrote}
+use Rattle.writers.specs.declared.Written.the-variants.{Wrote}
 use Rattle.frames.specs.Kinds.{limits, within, alone, ofPlaces, exactly, fits}
 use Rattle.frames.specs.Reading.{restOf}
-use Rattle.frames.specs.Writing.{frame}
+use Rattle.writers.specs.Writing.{frame}
 use Rattle.frames.proofs.Facts.{FrameFits, reading-told, refit, rest-length, first-asked}
 use Rattle.frames.proofs.Chosen.{values-told}
 use Rattle.rounds.specs.Layout.{Messages}

@@ -12,7 +12,7 @@ use Rattle.refusals.specs.Told.{done}
 use Rattle.algebra.specs.Residues.{modulus}
 use Rattle.frames.specs.declared.kind.Kind.the-variants.{Challenges, Bits}
 use Rattle.frames.specs.Reading.{restOf}
-use Rattle.frames.specs.PackedBits.{bitAt}
+use Rattle.packed_bits.specs.PackedBits.{bitAt}
 use Rattle.round.specs.Round.{Sound, Pair, WellFormed, standIn}
 use Rattle.round.specs.Pairing.{there, Pairing}
 use Rattle.round.proofs.Pairing.{pairing}

@@ -7,17 +7,20 @@ use native.Mathlib.Nat.{not-suc-le-zero}
 use native.Mathlib.Omega.{arith}
 use lib.ListN.{length, replicate, length-replicate}
 use Rattle.refusals.specs.Told.{done, fine, firstBelow}
-use Rattle.algebra.specs.Lists.{tab, sumBelow, allBelow, firstFrom, count, stretch, over}
+use Rattle.algebra.specs.Lists.{tab, sumBelow, allBelow, firstFrom, count, stretch, over, sameBytes}
 use Rattle.algebra.specs.Permutations.{isPerm, permute}
 use Rattle.algebra.specs.Matrices.{rowTimes, entry, productAt, keyFault}
-use Rattle.sha256.specs.Standard.{H0, K, T1, T2, W, Ch, Maj, ROTR, blockAt, blockCount, bytes, bytesOf, bytesOfWords, compressOf, digestOf, expandOf, hashValue, pad, padding, sumOf, turnOf, turnsOf, wordAt, wordOf, zeros, _⊞_, Σ0, Σ1, σ0, σ1}
+use Rattle.compression.specs.Constants.{H0, K}
+use Rattle.compression.specs.Block.{T1, T2, W, compressOf, expandOf, sumOf, turnOf, turnsOf, wordOf}
+use Rattle.compression.specs.Operations.{Ch, Maj, ROTR, wordAt, _⊞_, Σ0, Σ1, σ0, σ1}
+use Rattle.sha256.specs.Standard.{blockAt, blockCount, bytes, bytesOf, bytesOfWords, digestOf, hashValue, pad, padding, zeros}
 use Rattle.frames.specs.declared.kind.Kind.the-variants.{Commitments, Challenges, Answers, Openings}
-use Rattle.frames.specs.declared.write.Written.the-variants.{Wrote}
-use Rattle.frames.specs.PackedBits.{bitAt, unusedClear}
+use Rattle.writers.specs.declared.Written.the-variants.{Wrote}
+use Rattle.packed_bits.specs.PackedBits.{bitAt, unusedClear}
 use Rattle.frames.specs.Reading.{header, shape, values, permutations, reading, restOf}
-use Rattle.frames.specs.Writing.{frame}
+use Rattle.writers.specs.Writing.{frame}
 use Rattle.frames.specs.Choosing.{vectorOf, permutationOf, choiceCheck, choicesCheck}
-use Rattle.round.specs.Round.{calledFor, sameBytes, passes}
+use Rattle.round.specs.Round.{calledFor, passes}
 use Rattle.round.specs.Pairing.{Pairing}
 use Rattle.rounds.specs.Layout.{half, openedAt}
 use Rattle.rounds.specs.Rounds.{passesAt}

@@ -13,10 +13,10 @@ use Rattle.algebra.specs.Matrices.{rowTimes, product, entry, productAt, keyFaul
 use Rattle.algebra.specs.Drawings.{drawLeft, drawBelow, Drawing, usedBy, exchange, shuffle, drawPermutation}
 use Rattle.frames.specs.declared.kind.Kind.the-variants.{Challenges, Bits}
 use Rattle.frames.specs.Kinds.{within, alone}
-use Rattle.frames.specs.PackedBits.{bitAt}
-use Rattle.frames.specs.Clearing.{cleared}
+use Rattle.packed_bits.specs.PackedBits.{bitAt}
+use Rattle.packed_bits.specs.Clearing.{cleared}
 use Rattle.frames.specs.Reading.{header, shape, values, permutations, reading, restOf}
-use Rattle.frames.specs.Writing.{frame}
+use Rattle.writers.specs.Writing.{frame}
 use Rattle.draw.specs.Sequences.{listOf, manyTimes, oneBelow}
 use Rattle.draw.specs.Making.{drawChallenges, drawBits}
 use Rattle.draw.specs.Telling.{bare, telling}

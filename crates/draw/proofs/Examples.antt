@@ -1,24 +1,19 @@
 -- The definitions of `specs/` on examples, by computation.
 use mathlib.Core.Path.{_≡_, refl}
 use mathlib.Core.Bool.{true, false}
-use mathlib.Core.List.{List, [], _∷_, _++_}
-use Prim.Native.Nat.{ℕ}
-use native.Mathlib.Omega.{arith}
+use mathlib.Core.List.{[], _∷_}
 use Rattle.refusals.specs.Number.{SHAPE, ROOM, DRAW}
 use Rattle.refusals.specs.Buffer.{NONE, RANDOM, OUTPUT}
 use Rattle.refusals.specs.Told.{done, refused}
 use Rattle.algebra.specs.declared.draw.Used.the-variants.{To, RanOut}
-use Rattle.algebra.specs.Lists.{tab, sumBelow, stretch}
-use Rattle.algebra.specs.Residues.{negative}
-use Rattle.algebra.specs.Permutations.{permute, identity, placeOf, inverse}
-use Rattle.algebra.specs.Matrices.{rowTimes, SystemFits}
-use Rattle.algebra.specs.Solving.{completed}
+use Rattle.algebra.specs.Lists.{tab}
+use Rattle.algebra.specs.Permutations.{identity}
 use Rattle.algebra.specs.Drawings.{drawLeft, drawBelow, drew, ranOut, exchange, shuffle, drawPermutation}
-use Rattle.frames.specs.Clearing.{cleared}
-use Rattle.frames.specs.Writing.{frame}
+use Rattle.packed_bits.specs.Clearing.{cleared}
+use Rattle.writers.specs.Writing.{frame}
 use Rattle.draw.specs.Sequences.{manyTimes, oneBelow, drawResidues}
-use Rattle.draw.specs.Making.{drawChallenges, drawBits, drawChoice, drawChoices, publicKey, keyFrames, drawPair, drawKey}
-use Rattle.draw.specs.Telling.{bare, choicesFit, keySize, telling}
+use Rattle.draw.specs.Making.{drawChallenges, drawBits, drawChoice, drawChoices}
+use Rattle.draw.specs.Telling.{bare, choicesFit, telling}
 
 -- 255 and 251 are skipped, and counted
 challenges : (drawResidues 2 (255 ∷ 7 ∷ 251 ∷ 250 ∷ 9 ∷ []) 0 ≡ drew (7 ∷ 250 ∷ []) 4)
@@ -39,21 +34,6 @@ choices : (drawChoices 2 2 (9 ∷ 250 ∷ 6 ∷ 255 ∷ 3 ∷ 4 ∷ 7 ∷ []) �
 unfolding drawChoices drawChoice manyTimes oneBelow drawBelow drawLeft drawPermutation shuffle exchange identity tab
 choices = (refl, refl)
 
--- n = 4, m = 2, A' of the rows (1, 2) and (3, 4): π = (0, 3, 1, 2), and X = (5, 6, -17, -39)
-abbrev entries : List ℕ
-entries = 1 ∷ 2 ∷ 3 ∷ 4 ∷ []
-
-key : (drawKey entries 4 2 (6 ∷ 255 ∷ 4 ∷ 7 ∷ 5 ∷ 6 ∷ 1 ∷ [])
-    ≡ drew ((0 ∷ 7 ∷ 1 ∷ 2 ∷ 4 ∷ 5 ∷ 234 ∷ 212 ∷ 6 ∷ []) ++ (0 ∷ 7 ∷ 1 ∷ 3 ∷ 4 ∷ 0 ∷ 3 ∷ 1 ∷ 2 ∷ [])) 6)
-    × (drawKey entries 4 2 (6 ∷ 255 ∷ 4 ∷ 7 ∷ 5 ∷ []) ≡ ranOut)
-    × (drawKey entries 4 2 (6 ∷ 255 ∷ []) ≡ ranOut)
-unfolding drawKey drawPair keyFrames publicKey completed rowTimes stretch sumBelow negative permute inverse placeOf manyTimes oneBelow drawBelow drawLeft drawPermutation shuffle exchange identity tab frame
-key = (refl, refl, refl)
-
--- the system of this key fits, so that `key-drawn` holds of it
-system : SystemFits entries 4 2
-system = record { some = omega arith; less = omega arith; most = omega arith; entries = refl }
-
 -- numbers, then ROOM with the whole need, then DRAW with the bytes lent
 orders : (telling (bare false) 8 7 RanOut 5 ≡ refused SHAPE NONE 0)
     × (telling (bare true) 8 7 RanOut 5 ≡ refused ROOM OUTPUT 8)
@@ -64,6 +44,5 @@ orders : (telling (bare false) 8 7 RanOut 5 ≡ refused SHAPE NONE 0)
     × (choicesFit 64 2 65 ≡ false)
     × (choicesFit 250 2 65 ≡ true)
     × (choicesFit 64 2 0 ≡ false)
-    × (keySize 4 ≡ 18)
 unfolding telling
-orders = (refl, refl, refl, refl, refl, refl, refl, refl, refl, refl)
+orders = (refl, refl, refl, refl, refl, refl, refl, refl, refl)

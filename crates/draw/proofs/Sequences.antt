@@ -17,7 +17,7 @@ use Rattle.algebra.specs.Residues.{Residues}
 use Rattle.algebra.specs.Drawings.{drawBelow, Drawing, drew, ranOut, with, usedBy, drawnOver, Enough}
 use Rattle.algebra.proofs.Lists.{part-stretch, stretch-fits, part-over, over-behind}
 use Rattle.algebra.proofs.Fair.{drawn-below}
-use Rattle.draw.specs.Sequences.{listOf, made, andThen, manyTimes, oneBelow, someBelow}
+use Rattle.draw.specs.Sequences.{made, andThen, manyTimes, oneBelow, someBelow}
 
 -- ---- what a place used says of the drawing
 
@@ -142,15 +142,6 @@ module _ (next : ℕ → Drawing) (at : ℕ) (d out : List ℕ) (j p : ℕ) (w :
 abbrev pub Always : (List ℕ → Type 0) → Drawing → Type 0
 Always P (drew list at) = P list
 Always P ranOut = Unit {0}
-
--- the list drawn, where the bytes suffice
-pub listed : (P : List ℕ → Type 0) (d : Drawing) → Always P d → Enough d → P (listOf d)
-listed P (drew l at) h e = h
-listed P ranOut h e = absurd e
-
-pub made-over : (f : List ℕ → List ℕ) (d : Drawing) (out : List ℕ) → Enough d → over (f (listOf d)) out ≡ drawnOver (made f d) out
-made-over f (drew l at) out e = refl
-made-over f ranOut out e = absurd e
 
 -- n stretches of one size, and what holds of each
 pub record Stretches (P : List ℕ → Type 0) (size n : ℕ) (l : List ℕ) : Type 0 where

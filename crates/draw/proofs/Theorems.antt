@@ -1,41 +1,39 @@
--- What is drawn is well formed: residues are below 251, permutations are permutations, challenges, bits and keys are frames that are read as the
--- values drawn, choices pass their check, and a key has no fault.
+-- What is drawn is well formed: residues are below 251, permutations are permutations, challenges and bits are frames that are read as the
+-- values drawn, and choices pass their check.
 use mathlib.Core.Path.{_≡_, refl, sym, ap, _∙_, subst}
 use mathlib.Core.Bool.{Bool, true, cond}
 use mathlib.Core.List.{List, [], _∷_, _++_}
 use Prim.Native.Nat.{ℕ, zero, suc, _≤_, _<_}
 use native.Mathlib.Numerals.{add-one}
 use native.Mathlib.Omega.{arith}
-use lib.ListN.{length, take, drop, take-append-drop}
+use lib.ListN.{length, take}
 use lib.Seq.{take-suc}
 use Rattle.refusals.specs.Told.{done, fine}
 use Rattle.algebra.specs.Lists.{tab}
 use Rattle.algebra.specs.Residues.{modulus, Residues}
 use Rattle.algebra.specs.Permutations.{IsPerm}
-use Rattle.algebra.specs.Matrices.{keyFault, SystemFits}
 use Rattle.algebra.specs.Drawings.{Drawing, drew, ranOut, drawPermutation}
 use Rattle.algebra.proofs.Lists.{length-tab, getD-tab, tab-of}
 use Rattle.algebra.proofs.Drawings.{Permutes, drawn-perm}
 use Rattle.algebra.proofs.Fair.{drawn-at}
-use Rattle.algebra.proofs.Solving.{solved, residues-solved}
 use Rattle.frames.specs.declared.kind.Kind.{Kind}
-use Rattle.frames.specs.declared.kind.Kind.the-variants.{Public, Secret, Challenges, Bits}
+use Rattle.frames.specs.declared.kind.Kind.the-variants.{Challenges, Bits}
 use Rattle.frames.specs.Kinds.{within, alone, table}
-use Rattle.frames.specs.PackedBits.{bitAt}
-use Rattle.frames.specs.Clearing.{packedSize, cleared}
-use Rattle.frames.specs.Values.{Bytes, valuesOf}
+use Rattle.packed_bits.specs.PackedBits.{bitAt, Bytes}
+use Rattle.packed_bits.specs.Clearing.{packedSize, cleared}
+use Rattle.writers.specs.Values.{valuesOf}
 use Rattle.frames.specs.Reading.{restOf, reading}
-use Rattle.frames.specs.Writing.{frame}
+use Rattle.writers.specs.Writing.{frame}
 use Rattle.frames.specs.Choosing.{choiceSize, choicesCheck}
 use Rattle.frames.proofs.Facts.{within-told}
-use Rattle.frames.proofs.Clearing.{length-cleared, cleared-keeps, cleared-clear}
-use Rattle.frames.proofs.Passing.{residues-pass, permutation-passes, Chosen, choices-pass}
-use Rattle.frames.proofs.Spelling.{frame-spells, written-read}
-use Rattle.frames.proofs.Writing.{Plain}
+use Rattle.packed_bits.proofs.Clearing.{length-cleared, cleared-keeps, cleared-clear}
+use Rattle.frames.proofs.Passing.{residues-pass, Chosen, choices-pass}
+use Rattle.writers.proofs.Spelling.{frame-spells, written-read}
+use Rattle.writers.proofs.Writing.{Plain}
 use Rattle.draw.specs.Sequences.{made, andThen, someBelow, byteLimit, drawResidues, oneBelow, manyTimes}
-use Rattle.draw.specs.Making.{drawChallenges, drawBits, drawChoice, drawChoices, publicKey, keyFrames, drawPair, drawKey}
+use Rattle.draw.specs.Making.{drawChallenges, drawBits, drawChoice, drawChoices}
 use Rattle.draw.proofs.Sequences.{Always, Stretches, times-each, one-got, some-below}
-use Rattle.draw.proofs.Making.{choice-chosen, place-fits, DrawnPair, pair-drawn, length-publicKey}
+use Rattle.draw.proofs.Making.{choice-chosen}
 
 -- ---- residues and permutations
 
@@ -49,12 +47,12 @@ permutation-drawn n random at l next pos e = subst (Permutes n) e (drawn-perm n 
 -- ---- frames
 
 -- what was drawn of which s was made
-record Source (f : List ℕ → List ℕ) (d : Drawing) (s : List ℕ) (next : ℕ) : Type 0 where
-  list : List ℕ
-  drawn : d ≡ drew list next
-  same : s ≡ f list
+pub record Source (f : List ℕ → List ℕ) (d : Drawing) (s : List ℕ) (next : ℕ) : Type 0 where
+  pub list : List ℕ
+  pub drawn : d ≡ drew list next
+  pub same : s ≡ f list
 
-source : (f : List ℕ → List ℕ) (d : Drawing) (s : List ℕ) (next : ℕ) → made f d ≡ drew s next → Source f d s next
+pub source : (f : List ℕ → List ℕ) (d : Drawing) (s : List ℕ) (next : ℕ) → made f d ≡ drew s next → Source f d s next
 source f (drew l p) s next e = let q : p ≡ next = cc in let r : s ≡ f l = cc in record { list = l; drawn = ap (drew l) q; same = r }
 source f ranOut s next e = let z : _≡_ {A = ℕ} 0 1 = cc in absurd (omega arith)
 
@@ -63,7 +61,7 @@ pub record Accepted (k : Kind) (number : ℕ) (rest s : List ℕ) : Type 0 where
   pub accepts : reading k alone s ≡ done (number ∷ 0 ∷ table k .start ∷ [])
   pub holds : restOf k s ≡ rest
 
-accepted : (k : Kind) (number : ℕ) (rest : List ℕ) → Plain k number 0 rest → Accepted k number rest (frame k number 0 rest)
+pub accepted : (k : Kind) (number : ℕ) (rest : List ℕ) → Plain k number 0 rest → Accepted k number rest (frame k number 0 rest)
 accepted k number rest p = record { accepts = written-read k number 0 rest p; holds = frame-spells k number 0 rest (p .numbers) .tail }
 
 -- challenges are read as the residues drawn
@@ -129,44 +127,3 @@ unfolding drawChoices
 choices-drawn n N random l next pos e =
     let s = subst (Always (Stretches (Chosen n) (choiceSize n) N)) e (times-each (Chosen n) (choiceSize n) (drawChoice n random) (choice-chosen n random pos) N 0) in
     choices-pass n N l (s .len) (s .each)
-
--- ---- a key has no fault
-
-pub record KeyDrawn (a : List ℕ) (n m : ℕ) (random s : List ℕ) (next : ℕ) : Type 0 where
-  pub π : List ℕ
-  pub v : List ℕ
-  pub start : List ℕ
-  pub drawn : drawPair n m random ≡ drew (π ++ start) next
-  pub formed : v ≡ publicKey a n m π start
-  pub both : s ≡ frame Public n 0 v ++ frame Secret n 0 π
-  pub public : Accepted Public n v (frame Public n 0 v)
-  pub secret : Accepted Secret n π (frame Secret n 0 π)
-  pub valid : keyFault modulus a n m v π ≡ m
-
-pub key-drawn : (a : List ℕ) (n m : ℕ) (random s : List ℕ) (next : ℕ) → SystemFits a n m → drawKey a n m random ≡ drew s next
-    → KeyDrawn a n m random s next
-unfolding drawKey keyFrames publicKey
-key-drawn a n m random s next f e =
-    let q = source (λ (l : List ℕ). keyFrames a n m (take n l) (drop n l)) (drawPair n m random) s next e in
-    let p = subst (Always (DrawnPair n m)) (q .drawn) (pair-drawn n m random (omega arith)) in
-    let π = take n (q .list) in
-    let start = drop n (q .list) in
-    let v = publicKey a n m π start in
-    let t = place-fits n (omega arith) (f .most) in
-    record {
-      π = π;
-      v = v;
-      start = start;
-      drawn = q .drawn ∙ ap (λ (l : List ℕ). drew l next) (sym (take-append-drop n (q .list)));
-      formed = refl;
-      both = q .same;
-      public = accepted Public n v
-          (record {
-            numbers = t .0;
-            size = length-publicKey a n m π start;
-            content = ([], residues-pass _ 0 v (residues-solved modulus a n m start (omega arith) f (p .len) π (p .perm) (p .residues)));
-            spare = refl;
-          });
-      secret = accepted Secret n π (record { numbers = t .1; size = p .perm .len; content = ([], permutation-passes _ n 0 π (p .perm)); spare = refl });
-      valid = solved modulus a n m start (omega arith) f (p .len) π (p .perm);
-    }

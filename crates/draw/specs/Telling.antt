@@ -2,7 +2,7 @@
 use mathlib.Core.Path.{_≡_}
 use mathlib.Core.Bool.{Bool, _&&_}
 use mathlib.Core.List.{List, [], _∷_}
-use Prim.Native.Nat.{ℕ, _+_}
+use Prim.Native.Nat.{ℕ}
 use lib.Dec.{leb}
 use lib.ListN.{length}
 use Rattle.refusals.specs.Number.{SHAPE, ROOM, DRAW}
@@ -11,9 +11,7 @@ use Rattle.refusals.specs.Told.{Told, done, refused, told, first, demand}
 use Rattle.algebra.specs.declared.draw.Used.{Used}
 use Rattle.algebra.specs.declared.draw.Used.the-variants.{To, RanOut}
 use Rattle.algebra.specs.Drawings.{Drawing, usedBy, drawnOver}
-use Rattle.frames.specs.declared.kind.Kind.the-variants.{Public, Secret}
 use Rattle.frames.specs.Kinds.{limits, within, alone}
-use Rattle.frames.specs.Writing.{frameSize}
 use Rattle.draw.specs.declared.Taken.{Taken}
 use Rattle.draw.specs.declared.Taken.the-variants.{Bytes, Refused}
 
@@ -33,10 +31,6 @@ bare test = demand test SHAPE NONE 0
 -- n and N of choices, N up to the greatest that is asked
 abbrev pub choicesFit : ℕ → ℕ → ℕ → Bool
 choicesFit greatest n N = within (alone .places) n && within (limits 1 greatest) N
-
--- the two frames of a key
-abbrev pub keySize : ℕ → ℕ
-keySize n = frameSize Public n 0 + frameSize Secret n 0
 
 -- the bytes used; DRAW where they ran out, and its place is the number of bytes lent
 abbrev pub usedTold : Used → ℕ → Told

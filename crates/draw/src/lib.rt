@@ -1,4 +1,4 @@
-// Drawing from lent bytes, and key making. Each call measures first and writes then, so that bytes that run out leave the output as it was.
+// Drawing from lent bytes. Each call measures first and writes then, so that bytes that run out leave the output as it was.
 use frames::kind::Kind;
 use frames::kind::alone;
 use frames::kind::size_of;
@@ -8,12 +8,10 @@ use refusals::Refusal;
 ghost use mathlib.Core.Path.{_≡_};
 ghost use Prim.Native.Nat.{_≤_, _<_};
 ghost use Rattle.algebra.specs.Permutations.{longest};
-ghost use Rattle.frames.specs.Kinds.{within, alone};
-ghost use Rattle.frames.specs.Writing.{frameSize};
+ghost use Rattle.frames.specs.Kinds.{within, alone, frameSize};
 ghost use Rattle.draw.specs.Telling.{refusal};
 
 pub mod choices;
-pub mod key;
 pub mod messages;
 pub mod permutation;
 pub mod sequence;
@@ -25,7 +23,7 @@ pub enum Taken {
 }
 
 // A refusal, as the answer of a drawing.
-fn refuse(number: u8, buffer: u8, place: usize) -> Taken
+pub fn refuse(number: u8, buffer: u8, place: usize) -> Taken
     ensures { λ r. ⌜ r ≡ refusal number buffer place ⌝ }
 {
     Taken::Refused(Refusal {
@@ -50,7 +48,7 @@ fn rounds_fit(rounds: usize) -> bool
 }
 
 // The bytes of a frame that has one number.
-fn frame_size(kind: Kind, number: usize) -> usize
+pub fn frame_size(kind: Kind, number: usize) -> usize
     requires { ⌜ number ≤ longest ⌝ }
     ensures { λ r. ⌜ (r ≡ frameSize kind number 0) × (r < 70000) ⌝ }
 {

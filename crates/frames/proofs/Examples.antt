@@ -1,22 +1,18 @@
 -- Examples by computation: a frame of each kind, and each refusal that the kind can give.
 use mathlib.Core.Path.{_≡_, refl}
-use mathlib.Core.Bool.{true, false, not}
 use mathlib.Core.List.{List, [], _∷_, _++_}
 use Prim.Native.Nat.{ℕ}
-use lib.Dec.{eqb}
 use lib.ListN.{replicate}
-use Rattle.refusals.specs.Number.{SHORT, LONG, VERSION, KIND, SHAPE, VALUE, PERM, ROOM}
-use Rattle.refusals.specs.Buffer.{NONE, SYSTEM, PUBLIC, SECRET, CHOICES, COMMITMENTS, CHALLENGES, ANSWERS, BITS, OPENINGS, OUTPUT}
+use Rattle.refusals.specs.Number.{SHORT, LONG, VERSION, KIND, SHAPE, VALUE, PERM}
+use Rattle.refusals.specs.Buffer.{NONE, SYSTEM, PUBLIC, SECRET, CHOICES, COMMITMENTS, CHALLENGES, ANSWERS, BITS, OPENINGS}
 use Rattle.refusals.specs.Told.{Told, done, refused, fine, firstBelow}
-use Rattle.algebra.specs.Lists.{tab, sumBelow, allBelow, count, stretch}
+use Rattle.algebra.specs.Lists.{allBelow, count, stretch}
 use Rattle.algebra.specs.Permutations.{isPerm}
 use Rattle.frames.specs.declared.kind.Kind.{Kind}
 use Rattle.frames.specs.declared.kind.Kind.the-variants.{System, Public, Secret, Commitments, Challenges, Answers, Bits, Openings}
 use Rattle.frames.specs.Kinds.{limits, alone}
-use Rattle.frames.specs.PackedBits.{bitAt, unusedClear, byteOf, pack}
-use Rattle.frames.specs.Clearing.{cleared}
+use Rattle.packed_bits.specs.PackedBits.{bitAt, unusedClear}
 use Rattle.frames.specs.Reading.{header, shape, values, permutations, reading, openingCheck, openingOf}
-use Rattle.frames.specs.Writing.{frame, plainCheck, writing}
 use Rattle.frames.specs.Choosing.{vectorOf, permutationOf, choiceCheck, choicesCheck}
 
 -- a reading of a frame alone
@@ -86,19 +82,8 @@ first-answers = (refl, refl, refl)
 bits : (read Bits (0 ∷ 5 ∷ 1 ∷ 7 ∷ 9 ∷ 191 ∷ 128 ∷ []) ≡ done (9 ∷ 0 ∷ 5 ∷ []))
     × (read Bits (0 ∷ 5 ∷ 1 ∷ 7 ∷ 9 ∷ 191 ∷ 129 ∷ []) ≡ refused SHAPE BITS 4)
     × (read Bits (0 ∷ 5 ∷ 1 ∷ 7 ∷ 8 ∷ 191 ∷ 128 ∷ []) ≡ refused SHAPE BITS 4)
-    × (bitAt (191 ∷ 128 ∷ []) 0 ≡ true)
-    × (bitAt (191 ∷ 128 ∷ []) 1 ≡ false)
-    × (bitAt (191 ∷ 128 ∷ []) 8 ≡ true)
-    × (pack 9 (λ (k : ℕ). not (eqb k 1)) ≡ 191 ∷ 128 ∷ [])
-unfolding reading header shape unusedClear bitAt allBelow pack byteOf tab sumBelow
-bits = (refl, refl, refl, refl, refl, refl, refl)
-
--- 11 bits of two bytes: the last five are unused; of 16 bits none is
-cleared-bits : (cleared 11 (181 ∷ 255 ∷ []) ≡ 181 ∷ 224 ∷ [])
-    × (cleared 16 (181 ∷ 255 ∷ []) ≡ 181 ∷ 255 ∷ [])
-    × (cleared 1 (127 ∷ []) ≡ 0 ∷ [])
-unfolding cleared
-cleared-bits = (refl, refl, refl)
+unfolding reading header shape unusedClear bitAt allBelow
+bits = (refl, refl, refl)
 
 abbrev two-openings : List ℕ
 two-openings = 0 ∷ 10 ∷ 1 ∷ 8 ∷ 3 ∷ 2 ∷ 2 ∷ 0 ∷ 1 ∷ 0 ∷ 1 ∷ 2 ∷ []
@@ -113,20 +98,6 @@ openings : (read Openings two-openings ≡ done (3 ∷ 2 ∷ 6 ∷ []))
     × (openingCheck [] 0 ≡ refused SHORT OPENINGS 0)
 unfolding reading header shape permutations firstBelow isPerm allBelow count stretch openingCheck openingOf
 openings = (refl, refl, refl, refl, refl, refl, refl, refl)
-
--- ---- writers
-
-writers : (frame System 4 2 (1 ∷ 2 ∷ 3 ∷ 250 ∷ []) ≡ system)
-    × (writing System 4 2 (1 ∷ 2 ∷ 3 ∷ 250 ∷ []) 10 ≡ done (10 ∷ []))
-    × (writing System 4 2 (1 ∷ 2 ∷ 3 ∷ 250 ∷ []) 9 ≡ refused ROOM OUTPUT 10)
-    × (writing System 65 2 [] 0 ≡ refused SHAPE NONE 0)
-    × (writing System 4 2 (251 ∷ []) 0 ≡ refused SHAPE SYSTEM 0)
-    × (writing System 4 2 (1 ∷ 2 ∷ 251 ∷ 251 ∷ []) 0 ≡ refused VALUE SYSTEM 2)
-    × (writing Bits 9 0 (191 ∷ 129 ∷ []) 0 ≡ refused SHAPE BITS 0)
-    × (frame Bits 9 0 (191 ∷ 128 ∷ []) ≡ 0 ∷ 5 ∷ 1 ∷ 7 ∷ 9 ∷ 191 ∷ 128 ∷ [])
-    × (writing Openings 2 2 (0 ∷ 1 ∷ 1 ∷ 1 ∷ []) 0 ≡ refused PERM OPENINGS 2)
-unfolding frame writing plainCheck values permutations firstBelow unusedClear bitAt isPerm allBelow count stretch
-writers = (refl, refl, refl, refl, refl, refl, refl, refl, refl)
 
 -- ---- choices: n = 2, two rounds, R before σ
 

@@ -124,16 +124,6 @@ start-five Answers = omega arith
 start-five Bits = omega arith
 start-five Openings = omega arith
 
-pub start-six : (k : Kind) → table k .start ≤ 6
-start-six System = omega arith
-start-six Public = omega arith
-start-six Secret = omega arith
-start-six Commitments = omega arith
-start-six Challenges = omega arith
-start-six Answers = omega arith
-start-six Bits = omega arith
-start-six Openings = omega arith
-
 -- ---- numbers alone
 
 pub modest-alone : Modest alone

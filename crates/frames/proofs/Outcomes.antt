@@ -1,17 +1,15 @@
 -- For each call: no second outcome fits what it promises, and a refused call changes nothing.
 use mathlib.Core.Path.{_≡_, refl, sym, ap, _∙_}
-use mathlib.Core.Bool.{Bool}
 use mathlib.Core.List.{List, [], _∷_}
-use Prim.Native.Nat.{ℕ, _+_, _*_, _≤_}
+use Prim.Native.Nat.{ℕ, _+_, _*_}
 use native.Mathlib.Omega.{arith}
 use lib.Dec.{eqb, ltb, leb}
 use lib.ListN.{length, getD}
 use Rattle.refusals.specs.Number.{SHORT, LONG, VERSION, KIND, SHAPE, VALUE, PERM}
-use Rattle.refusals.specs.declared.Refusal.{Refusal}
 use Rattle.refusals.specs.declared.Checked.{Checked}
 use Rattle.refusals.specs.Buffer.{CHOICES}
 use Rattle.refusals.specs.Told.{Told, done, refused, means, first, firstBelow, demand}
-use Rattle.refusals.proofs.Chain.{means-fixes, UpTo, done-most, demand-most, first-most, below-most}
+use Rattle.refusals.proofs.Chain.{means-fixes, UpTo, done-most, demand-most, first-most, below-most, test-most}
 use Rattle.algebra.specs.Lists.{stretch}
 use Rattle.algebra.specs.Residues.{modulus}
 use Rattle.algebra.specs.Permutations.{isPerm}
@@ -20,24 +18,18 @@ use Rattle.frames.specs.declared.kind.Kind.the-variants.{System, Public,
 use Rattle.frames.specs.declared.kind.Expected.{Expected}
 use Rattle.frames.specs.declared.read.Read.{Read}
 use Rattle.frames.specs.declared.read.Read.the-variants.{Frame, Refused}
-use Rattle.frames.specs.declared.write.Written.{Written}
-use Rattle.frames.specs.declared.write.Written.the-variants.{Wrote, Refused as NotWritten}
 use Rattle.frames.specs.Kinds.{table}
 use Rattle.frames.specs.Reading.{countOf, header, firstOf, secondOf, restOf, shape, residueAt, values, permutationAt, permutations, content, reading, readMeans, Reads, openingCheck}
 use Rattle.frames.specs.Choosing.{choiceSize, choiceOf, vectorOf, permutationOf, choiceCheck, choiceAt, choicesCheck}
-use Rattle.frames.specs.Writing.{frame, writtenMeans, outAfter, Writes}
 
 -- ---- readers: they write nothing
 
-refusal : ℕ → ℕ → ℕ → Refusal
-refusal number buffer place = record { number = number; buffer = buffer; place = place }
-
 reader : Told → Read
 reader (done v) = Frame (getD v 0 0) (getD v 1 0) (getD v 2 0)
-reader (refused x y z) = Refused (refusal x y z)
+reader (refused x y z) = Refused (record { number = x; buffer = y; place = z })
 
 reader-means : (a : Read) → reader (readMeans a) ≡ a
-unfolding reader refusal
+unfolding reader
 reader-means (Frame a b start) = refl
 reader-means (Refused r) = refl
 
@@ -65,8 +57,6 @@ content-most Bits a b at rest = done-most PERM []
 content-most Openings a b at rest = permutations-most _ a at b rest
 
 -- a test in front of a chain
-test-most : (test : Bool) (x y z : ℕ) (rest : Told) → 1 ≤ x → x ≤ PERM → UpTo PERM rest → UpTo PERM (first (demand test x y z) rest)
-test-most test x y z rest g h = first-most PERM (demand test x y z) rest (demand-most PERM test x y z g h)
 
 header-most : (k : Kind) (s : List ℕ) → UpTo PERM (header k s)
 unfolding header
@@ -76,10 +66,10 @@ header-most k s =
     let r4 : Told = first (demand (eqb (getD s 2 0) (table k .version)) VERSION b 2) r5 in
     let r3 : Told = first (demand (leb (length s) (countOf s + 2)) LONG b 0) r4 in
     let r2 : Told = first (demand (leb (countOf s + 2) (length s)) SHORT b 0) r3 in
-    test-most (leb 4 (length s)) SHORT b 0 r2 (omega arith) (omega arith)
-    (test-most (leb (countOf s + 2) (length s)) SHORT b 0 r3 (omega arith) (omega arith)
-    (test-most (leb (length s) (countOf s + 2)) LONG b 0 r4 (omega arith) (omega arith)
-    (test-most (eqb (getD s 2 0) (table k .version)) VERSION b 2 r5 (omega arith) (omega arith)
+    test-most PERM (leb 4 (length s)) SHORT b 0 r2 (omega arith) (omega arith)
+    (test-most PERM (leb (countOf s + 2) (length s)) SHORT b 0 r3 (omega arith) (omega arith)
+    (test-most PERM (leb (length s) (countOf s + 2)) LONG b 0 r4 (omega arith) (omega arith)
+    (test-most PERM (eqb (getD s 2 0) (table k .version)) VERSION b 2 r5 (omega arith) (omega arith)
     (demand-most PERM (eqb (getD s 3 0) (table k .number)) KIND b 3 (omega arith) (omega arith)))))
 
 pub reading-most : (k : Kind) (e : Expected) (s : List ℕ) → UpTo PERM (reading k e s)
@@ -88,7 +78,7 @@ reading-most k e s =
     let values = firstOf s ∷ secondOf k s ∷ table k .start ∷ [] in
     let body = content k (firstOf s) (secondOf k s) (table k .start) (restOf k s) in
     first-most PERM (header k s) (first (demand (shape k e s) SHAPE (table k .buffer) 4) (first body (done values))) (header-most k s)
-    (test-most (shape k e s) SHAPE (table k .buffer) 4 (first body (done values)) (omega arith) (omega arith)
+    (test-most PERM (shape k e s) SHAPE (table k .buffer) 4 (first body (done values)) (omega arith) (omega arith)
     (first-most PERM body (done values) (content-most k (firstOf s) (secondOf k s) (table k .start) (restOf k s)) (done-most PERM values)))
 
 -- and so does the check of choices
@@ -103,32 +93,8 @@ choice-most n at choice =
 pub choices-most : (n N : ℕ) (choices : List ℕ) → UpTo PERM (choicesCheck n N choices)
 unfolding choicesCheck
 choices-most n N choices =
-    test-most (eqb (length choices) (N * choiceSize n)) SHAPE CHOICES 0 (firstBelow N (choiceAt n choices)) (omega arith) (omega arith)
+    test-most PERM (eqb (length choices) (N * choiceSize n)) SHAPE CHOICES 0 (firstBelow N (choiceAt n choices)) (omega arith) (omega arith)
     (below-most PERM N (choiceAt n choices) (λ k. choice-most n (k * choiceSize n) (choiceOf choices n k)))
-
--- ---- writers
-
-writer : Told → Written
-writer (done v) = Wrote (getD v 0 0)
-writer (refused x y z) = NotWritten (refusal x y z)
-
-writer-means : (a : Written) → writer (writtenMeans a) ≡ a
-unfolding writer refusal
-writer-means (Wrote n) = refl
-writer-means (NotWritten r) = refl
-
-pub written-fixes : (a b : Written) → writtenMeans a ≡ writtenMeans b → a ≡ b
-written-fixes a b e = sym (writer-means a) ∙ ap writer e ∙ writer-means b
-
-pub one-writing : (k : Kind) (a b : ℕ) (plain out : List ℕ) (r q : Written) (x y : List ℕ)
-    → Writes k a b plain out r x → Writes k a b plain out q y → (r ≡ q) × (x ≡ y)
-one-writing k a b plain out r q x y p s =
-    let e : r ≡ q = written-fixes r q (p .says ∙ sym (s .says)) in
-    (e, p .writes ∙ ap (λ (t : Written). outAfter t (frame k a b plain) out) e ∙ sym (s .writes))
-
-pub refused-writes-nothing : (k : Kind) (a b : ℕ) (plain out : List ℕ) (r : Refusal) (after : List ℕ)
-    → Writes k a b plain out (NotWritten r) after → after ≡ out
-refused-writes-nothing k a b plain out r after p = p .writes
 
 -- ---- the check of a named round: its contract is an equation, and so is that of the stretch handed back
 

@@ -16,10 +16,6 @@ limits least greatest = record { least = least; greatest = greatest }
 abbrev pub within : Limits → ℕ → Bool
 within l x = leb (l .least) x && leb x (l .greatest)
 
--- offsets are below this, far from what a usize holds
-abbrev pub offsets : ℕ
-offsets = 1048576
-
 -- what is asked of a frame alone: n is 2 to 64, N is 1 to 64
 abbrev pub alone : Expected
 alone = record { places = limits 2 64; rounds = limits 1 64 }
@@ -79,3 +75,7 @@ table Openings = row 8 1 OPENINGS 6 places alike (λ (n N : ℕ). n * N)
 -- whether the numbers a and b are within the limits of their kind
 abbrev pub fits : Kind → Expected → ℕ → ℕ → Bool
 fits k e a b = within (table k .first e) a && within (table k .second e a) b
+
+-- the bytes of a frame with the numbers a and b
+abbrev pub frameSize : Kind → ℕ → ℕ → ℕ
+frameSize k a b = table k .start + table k .size a b

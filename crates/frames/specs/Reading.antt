@@ -17,7 +17,7 @@ use Rattle.frames.specs.declared.kind.Expected.{Expected}
 use Rattle.frames.specs.declared.read.Read.{Read}
 use Rattle.frames.specs.declared.read.Read.the-variants.{Frame, Refused}
 use Rattle.frames.specs.Kinds.{table, fits, alone}
-use Rattle.frames.specs.PackedBits.{unusedClear}
+use Rattle.packed_bits.specs.PackedBits.{unusedClear}
 
 -- the count of all bytes after the first two, big-endian
 abbrev pub countOf : List ℕ → ℕ

@@ -1,8 +1,8 @@
 // The bytes of a body after its numbers.
-use crate::bits::unused_clear;
 use crate::kind::Kind;
 use algebra::MODULUS;
 use algebra::permutation::is_permutation;
+use packed_bits::unused_clear;
 use refusals::Checked;
 use refusals::buffer::ANSWERS;
 use refusals::buffer::CHALLENGES;
@@ -18,7 +18,8 @@ ghost use Prim.Native.Nat.{_+_, _*_, _≤_, _<_};
 ghost use lib.ListN.{length};
 ghost use Rattle.refusals.specs.Told.{means};
 ghost use Rattle.algebra.specs.Permutations.{longest};
-ghost use Rattle.frames.specs.Kinds.{offsets, table};
+ghost use Rattle.algebra.specs.Lists.{offsets};
+ghost use Rattle.frames.specs.Kinds.{table};
 ghost use Rattle.frames.specs.Reading.{spareClear, values, publicVector, permutations, content};
 
 // VALUE at the first residue above 250, where the first of them is at the offset `at`.

@@ -10,7 +10,7 @@ ghost use Prim.Native.Nat.{_+_, _≤_, _<_};
 ghost use lib.ListN.{length};
 ghost use Rattle.refusals.specs.Told.{means};
 ghost use Rattle.algebra.specs.Permutations.{longest};
-ghost use Rattle.frames.specs.Kinds.{offsets};
+ghost use Rattle.algebra.specs.Lists.{offsets};
 ghost use Rattle.frames.specs.Choosing.{choiceSize, choiceCheck, choicesCheck};
 
 // One round, whose first byte is at the offset `at`.

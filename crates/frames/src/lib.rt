@@ -2,13 +2,11 @@
 ghost use mathlib.Core.Path.{_≡_};
 ghost use Prim.Native.Nat.{_<_};
 
-pub mod bits;
 pub mod body;
 pub mod choices;
 pub mod kind;
 pub mod opening;
 pub mod read;
-pub mod write;
 
 // A byte, as a number to count with.
 pub fn wide(x: u8) -> usize

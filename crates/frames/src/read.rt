@@ -24,7 +24,8 @@ ghost use Prim.Native.Nat.{_≤_, _<_};
 ghost use lib.ListN.{length};
 ghost use Rattle.refusals.specs.Told.{means, demand};
 ghost use Rattle.refusals.specs.Number.{SHAPE};
-ghost use Rattle.frames.specs.Kinds.{offsets, alone, Modest, table};
+ghost use Rattle.algebra.specs.Lists.{offsets};
+ghost use Rattle.frames.specs.Kinds.{alone, Modest, table};
 ghost use Rattle.frames.specs.Reading.{countOf, header, secondOf, shape, Reads};
 
 // What a reader answers: the numbers (the second is 0 where a kind has one) and where the rest of the body starts.

@@ -77,6 +77,10 @@ pub first-most : (most : ℕ) (a b : Told) → UpTo most a → UpTo most b → U
 first-most most (done v) b f g = g
 first-most most (refused x y z) b f g = f
 
+-- a test in front of a chain
+pub test-most : (most : ℕ) (test : Bool) (x y z : ℕ) (rest : Told) → 1 ≤ x → x ≤ most → UpTo most rest → UpTo most (first (demand test x y z) rest)
+test-most most test x y z rest g h = first-most most (demand test x y z) rest (demand-most most test x y z g h)
+
 pub below-most : (most n : ℕ) (f : ℕ → Told) → ((k : ℕ) → UpTo most (f k)) → UpTo most (firstBelow n f)
 unfolding firstBelow
 below-most most zero f h = done-most most []

@@ -10,7 +10,7 @@ use Rattle.refusals.specs.Buffer.{NONE, SYSTEM, PUBLIC, COMMITMENTS, CHALLENGES
 use Rattle.refusals.specs.Told.{Told, refused, firstBelow}
 use Rattle.algebra.specs.Lists.{allBelow, count, stretch}
 use Rattle.algebra.specs.Permutations.{isPerm}
-use Rattle.frames.specs.PackedBits.{bitAt, unusedClear}
+use Rattle.packed_bits.specs.PackedBits.{bitAt, unusedClear}
 use Rattle.frames.specs.Reading.{header, shape, values, permutations, reading}
 use Rattle.register.specs.Verdict.{signOn, basisCheck, exchangeCheck, framesCheck, enough, judging}
 use Rattle.register.specs.Cutting.{front, behind, signOnOf, judgingInput}

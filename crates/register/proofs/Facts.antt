@@ -13,7 +13,7 @@ use Rattle.algebra.specs.Matrices.{SystemFits}
 use Rattle.frames.specs.declared.kind.Kind.the-variants.{System, Public, Commitments, Challenges, Answers, Bits, Openings}
 use Rattle.frames.specs.Kinds.{alone, ofPlaces, exactly}
 use Rattle.frames.specs.Reading.{firstOf, secondOf, restOf, reading}
-use Rattle.frames.specs.PackedBits.{bitAt}
+use Rattle.packed_bits.specs.PackedBits.{bitAt}
 use Rattle.frames.proofs.Facts.{FrameFits, reading-told, first-within, first-asked, second-asked, rest-length}
 use Rattle.frames.proofs.Orders.{from, rest-part}
 use Rattle.frames.proofs.Passing.{system-fits}

@@ -12,7 +12,7 @@ use Rattle.algebra.specs.Matrices.{SystemFits}
 use Rattle.frames.specs.declared.kind.Kind.the-variants.{System, Public, Commitments, Challenges, Answers, Bits, Openings}
 use Rattle.frames.specs.Kinds.{alone, ofPlaces, exactly}
 use Rattle.frames.specs.Reading.{firstOf, secondOf, restOf, reading}
-use Rattle.frames.specs.PackedBits.{bitAt}
+use Rattle.packed_bits.specs.PackedBits.{bitAt}
 use Rattle.round.specs.Round.{System as SystemOf, systemOf}
 use Rattle.rounds.specs.Layout.{Messages, messages, MessagesFit}
 use Rattle.rounds.specs.Rounds.{passesAt, firstFailing}

@@ -2,8 +2,8 @@
 use crate::Verdict;
 use crate::check::check_frames;
 use crate::grade::enough;
-use frames::bits::bit_at;
 use frames::wide;
+use packed_bits::bit_at;
 use refusals::Checked;
 use refusals::Refusal;
 use refusals::buffer::NONE;

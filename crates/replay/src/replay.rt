@@ -12,7 +12,6 @@ use crate::tell::tell_taken;
 use crate::tell::tell_written;
 use draw::Taken;
 use draw::choices::draw_choices;
-use draw::key::make_key;
 use draw::messages::draw_bits;
 use draw::messages::draw_challenges;
 use draw::permutation::draw_permutation;
@@ -28,18 +27,19 @@ use frames::read::read_public_key;
 use frames::read::read_secret_key;
 use frames::read::read_system;
 use frames::wide;
-use frames::write::Written;
-use frames::write::write_bits;
-use frames::write::write_challenges;
-use frames::write::write_commitments;
-use frames::write::write_first_answers;
-use frames::write::write_openings;
-use frames::write::write_public_key;
-use frames::write::write_secret_key;
-use frames::write::write_system;
+use key_making::make_key;
 use libc::STDOUT_FILENO;
 use sha256::hash;
 use stand_in::stand_in;
+use writers::Written;
+use writers::write_bits;
+use writers::write_challenges;
+use writers::write_commitments;
+use writers::write_first_answers;
+use writers::write_openings;
+use writers::write_public_key;
+use writers::write_secret_key;
+use writers::write_system;
 
 fn read(call: u8, frame: &[u8]) -> Read {
     match call {

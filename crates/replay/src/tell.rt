@@ -2,11 +2,11 @@
 use draw::Taken;
 use frames::read::Read;
 use frames::wide;
-use frames::write::Written;
 use libc::STDOUT_FILENO;
 use refusals::Checked;
 use refusals::Refusal;
 use register::Verdict;
+use writers::Written;
 
 // The most bytes that are printed one by one.
 const SHOWN_WHOLE: usize = 40;

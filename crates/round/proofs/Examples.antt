@@ -3,11 +3,11 @@ use mathlib.Core.Path.{_≡_, refl}
 use mathlib.Core.Bool.{true, false}
 use mathlib.Core.List.{List, [], _∷_, _++_, zipWith}
 use Prim.Native.Nat.{ℕ}
-use Rattle.algebra.specs.Lists.{tab, sumBelow, stretch}
+use Rattle.algebra.specs.Lists.{tab, sumBelow, stretch, sameBytes}
 use Rattle.algebra.specs.Residues.{negative, addScaled, subScaled}
 use Rattle.algebra.specs.Permutations.{permute}
 use Rattle.algebra.specs.Matrices.{rowTimes, product, entry, productAt}
-use Rattle.round.specs.Round.{System, Pair, pair, committed0, committed1, firstAnswer, opening, calledFor, sameBytes, standInCommitted, standInAnswer}
+use Rattle.round.specs.Round.{System, Pair, pair, committed0, committed1, firstAnswer, opening, calledFor, standInCommitted, standInAnswer}
 
 abbrev four : ℕ → ℕ → ℕ → ℕ → List ℕ
 four a b c d = a ∷ b ∷ c ∷ d ∷ []

@@ -1,36 +1,18 @@
 -- Laws of a round: an honest round passes, and so does the stand-in's.
 use mathlib.Core.Path.{_≡_, refl, sym, ap, _∙_}
-use mathlib.Core.Bool.{Bool, true, false, _&&_, false≢true}
-use mathlib.Core.List.{List, [], _∷_, _++_}
+use mathlib.Core.Bool.{Bool, true, false}
+use mathlib.Core.List.{List, _++_}
 use Prim.Native.Nat.{ℕ, _≤_}
-use borrow.Author.Tests.{eqb-true, eq-eqb}
-use lib.Dec.{eqb}
 use lib.ListN.{length, getD, getD-replicate}
+use Rattle.algebra.specs.Lists.{sameBytes}
 use Rattle.algebra.specs.Residues.{addScaled, subScaled}
 use Rattle.algebra.specs.Permutations.{IsPerm, permute, compose}
+use Rattle.algebra.proofs.Lists.{same-self, same-true}
 use Rattle.algebra.proofs.Permutations.{length-permute, permute-compose, compose-perm}
 use Rattle.algebra.proofs.Vectors.{residues-permute, permute-addScaled, add-zeros, sub-add}
 use Rattle.algebra.proofs.Matrices.{length-product, residues-product, product-reindex, product-linear}
 use Rattle.sha256.specs.Standard.{digestOf}
-use Rattle.round.specs.Round.{System, Sound, times, timesAt, ValidKey, Pair, WellFormed, committed0, committed1, firstAnswer, opening, honest, calledFor, sameBytes, Opened, passes, commitmentOf, openedOf, standInCommitted, standInAnswer, standIn}
-
--- ---- the comparison
-
-same-self : (x : List ℕ) → sameBytes x x ≡ true
-unfolding sameBytes
-same-self [] = refl
-same-self (x ∷ xs) = rw (eq-eqb x x refl) (same-self xs)
-
-same-true : (x y : List ℕ) → sameBytes x y ≡ true → x ≡ y
-unfolding sameBytes
-same-true [] [] e = refl
-same-true [] (y ∷ ys) e = absurd (false≢true e)
-same-true (x ∷ xs) [] e = absurd (false≢true e)
-same-true (x ∷ xs) (y ∷ ys) e = step (eqb x y) refl e (same-true xs ys)
-  where
-    step : (b : Bool) → eqb x y ≡ b → (b && sameBytes xs ys) ≡ true → (sameBytes xs ys ≡ true → xs ≡ ys) → x ∷ xs ≡ y ∷ ys
-    step true q t ih = rw (eqb-true x y q, ih t)
-    step false q t ih = absurd (false≢true t)
+use Rattle.round.specs.Round.{System, Sound, times, timesAt, ValidKey, Pair, WellFormed, committed0, committed1, firstAnswer, opening, honest, calledFor, Opened, passes, commitmentOf, openedOf, standInCommitted, standInAnswer, standIn}
 
 -- a round passes exactly when its commitment is the hash called for
 module _ (s : System) (v : List ℕ) (c : ℕ) (bit : Bool) (o : Opened) where

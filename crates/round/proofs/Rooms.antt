@@ -12,7 +12,7 @@ use Rattle.algebra.specs.Lists.{over}
 use Rattle.algebra.specs.Permutations.{IsPerm, permute, compose}
 use Rattle.algebra.proofs.Lists.{front}
 use Rattle.algebra.proofs.Permutations.{length-permute, compose-perm}
-use Rattle.round.specs.Round.{sameBytes}
+use Rattle.algebra.specs.Lists.{sameBytes}
 
 pub take-within : (n k : ℕ) (l : List ℕ) → n < k → length (take n l) < k
 take-within n k l h = simp length-take (omega arith)

@@ -1,10 +1,10 @@
 -- One round (document 01, "One round"; source document 003, section 2, decides). The hash is SHA-256, of which nothing is used but its name.
 use mathlib.Core.Path.{_≡_}
-use mathlib.Core.Bool.{Bool, true, false, _&&_}
-use mathlib.Core.List.{List, [], _∷_, _++_}
+use mathlib.Core.Bool.{Bool, true, false}
+use mathlib.Core.List.{List, _++_}
 use Prim.Native.Nat.{ℕ, _<_}
-use lib.Dec.{eqb}
 use lib.ListN.{length, replicate}
+use Rattle.algebra.specs.Lists.{sameBytes}
 use Rattle.algebra.specs.Residues.{modulus, Residues, addScaled, subScaled}
 use Rattle.algebra.specs.Permutations.{IsPerm, permute, compose}
 use Rattle.algebra.specs.Matrices.{product, productAt, SystemFits}
@@ -91,12 +91,6 @@ honest s v π c bit x =
 unfoldable pub calledFor : System → List ℕ → ℕ → Bool → List ℕ → List ℕ → List ℕ
 calledFor s v c false θ w = θ ++ timesAt s θ w
 calledFor s v c true θ w = θ ++ subScaled (s .p) w c (permute v θ)
-
-unfoldable pub sameBytes : List ℕ → List ℕ → Bool
-sameBytes [] [] = true
-sameBytes [] (y ∷ ys) = false
-sameBytes (x ∷ xs) [] = false
-sameBytes (x ∷ xs) (y ∷ ys) = eqb x y && sameBytes xs ys
 
 -- what is opened of a round: the commitment of its bit, the first answer and the permutation. The other commitment is not in it.
 pub record Opened : Type 0 where

@@ -14,7 +14,8 @@ ghost use Rattle.algebra.specs.Residues.{modulus, subScaled};
 ghost use Rattle.algebra.specs.Permutations.{longest, IsPerm, permute};
 ghost use Rattle.algebra.specs.Matrices.{productAt, SystemFits};
 ghost use Rattle.sha256.specs.Standard.{digestOf};
-ghost use Rattle.round.specs.Round.{systemOf, calledFor, sameBytes, opened, passes};
+ghost use Rattle.algebra.specs.Lists.{sameBytes};
+ghost use Rattle.round.specs.Round.{systemOf, calledFor, opened, passes};
 
 // As called_zero, with room for the U with U[sigma[j]] = W[j] and for A U.
 fn called_zero_with(

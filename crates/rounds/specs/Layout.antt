@@ -7,7 +7,7 @@ use lib.ListN.{length, getD, take, drop}
 use Rattle.algebra.specs.Lists.{stretch}
 use Rattle.algebra.specs.Residues.{modulus, Residues}
 use Rattle.algebra.specs.Permutations.{longest, IsPerm}
-use Rattle.frames.specs.PackedBits.{bitAt}
+use Rattle.packed_bits.specs.PackedBits.{bitAt}
 use Rattle.frames.specs.Choosing.{choiceSize, choiceOf, vectorOf, permutationOf}
 use Rattle.round.specs.Round.{System, Pair, pair, WellFormed, Opened, opened}
 

@@ -5,7 +5,7 @@ use Prim.Native.Nat.{ℕ}
 use lib.ListN.{getD}
 use Rattle.algebra.specs.Lists.{joined, firstFrom}
 use Rattle.sha256.specs.Standard.{digestOf}
-use Rattle.frames.specs.PackedBits.{bitAt}
+use Rattle.packed_bits.specs.PackedBits.{bitAt}
 use Rattle.round.specs.Round.{System, committed0, committed1, firstAnswer, opening, passes}
 use Rattle.rounds.specs.Layout.{pairAt, Messages, challengeAt, openedAt}
 

@@ -2,7 +2,7 @@
 use crate::layout::permutation_of;
 use crate::layout::vector_of;
 use algebra::output::copy_at;
-use frames::bits::bit_at;
+use packed_bits::bit_at;
 use round::card::commitment_one;
 use round::card::commitment_zero;
 use round::card::first_answer_into;

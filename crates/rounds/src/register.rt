@@ -1,6 +1,6 @@
 // The register's loop: the first round that does not pass.
 use crate::layout::half_start;
-use frames::bits::bit_at;
+use packed_bits::bit_at;
 use round::register::passes;
 ghost use mathlib.Core.Path.{_≡_};
 ghost use Prim.Native.Nat.{_<_};

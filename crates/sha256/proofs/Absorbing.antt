@@ -6,8 +6,9 @@ use native.Mathlib.Omega.{arith}
 use lib.ListN.{length, take, drop, length-append, length-drop, drop-of-length-le, take-append-drop}
 use lib.Seq.{drop-append-le, drop-at, length-take-le, take-all, take-append-le}
 use Rattle.sha256.specs.Absorbed.{Absorbed, Chained}
-use Rattle.sha256.specs.Standard.{blockAt, blockCount, bytesOf, compressOf, digestOf, hashValue, pad, padding}
-use Rattle.sha256.specs.declared.block.Words.{Words}
+use Rattle.sha256.specs.Standard.{blockAt, blockCount, bytesOf, digestOf, hashValue, pad, padding}
+use Rattle.compression.specs.Block.{compressOf}
+use Rattle.compression.specs.declared.Words.{Words}
 use Rattle.sha256.specs.declared.stream.Stream.{Stream}
 
 -- ---- whole blocks

@@ -6,7 +6,10 @@ use lib.ListN.{length}
 use Rattle.refusals.specs.Told.{done, refused}
 use Rattle.sha256.proofs.Padding.{zeroBits}
 use Rattle.sha256.specs.Call.{toldOf}
-use Rattle.sha256.specs.Standard.{H0, K, T1, T2, W, _⊞_, Ch, Maj, ROTR, blockAt, blockCount, bytes, bytesOf, bytesOfWords, compressOf, digestOf, expandOf, hashValue, pad, padding, sumOf, turnOf, turnsOf, wordAt, wordOf, zeros, Σ0, Σ1, σ0, σ1}
+use Rattle.compression.specs.Constants.{H0, K}
+use Rattle.compression.specs.Block.{T1, T2, W, compressOf, expandOf, sumOf, turnOf, turnsOf, wordOf}
+use Rattle.compression.specs.Operations.{_⊞_, Ch, Maj, ROTR, wordAt, Σ0, Σ1, σ0, σ1}
+use Rattle.sha256.specs.Standard.{blockAt, blockCount, bytes, bytesOf, bytesOfWords, digestOf, hashValue, pad, padding, zeros}
 
 -- §5.1.1: the message "abc", of 24 bits, is padded with the bit 1 and then 448 - (24 + 1) = 423 zeros
 zeros-of-abc : zeroBits 3 ≡ 423

@@ -2,8 +2,6 @@
 pub mod Examples
 pub mod Padding
 pub mod Digest
-pub mod Choice
-pub mod Compression
 pub mod Laid
 pub mod Absorbing
 pub mod Call

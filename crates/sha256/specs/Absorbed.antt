@@ -4,7 +4,7 @@ use mathlib.Core.Path.{_≡_}
 use Prim.Native.Nat.{ℕ, _+_, _*_, _/_, _%_}
 use lib.ListN.{length, take, drop}
 use Rattle.sha256.specs.Standard.{hashValue}
-use Rattle.sha256.specs.declared.block.Words.{Words}
+use Rattle.compression.specs.declared.Words.{Words}
 use Rattle.sha256.specs.declared.stream.Stream.{Stream}
 
 -- v is the hash value of a message of whole blocks

@@ -1,20 +1,10 @@
-// Bytes and the numbers that they stand for, the highest byte first: FIPS 180-4, section 3.1.
+// The bytes of numbers, the highest byte first, and of a hash value: FIPS 180-4, sections 3.1 and 6.2.2.
+use compression::Words;
 ghost use mathlib.Core.Path.{_≡_};
 ghost use Prim.Native.Nat.{_+_, _≤_};
 ghost use lib.ListN.{length};
 ghost use lib.Seq.{paste};
-ghost use Rattle.sha256.specs.Standard.{bytes, wordAt};
-
-// The word of the four bytes from place `at` on.
-pub fn word_at(s: &[u8], at: usize) -> u32
-    requires { ⌜ at + 4 ≤ length (now s) ⌝ }
-    ensures { λ r. ⌜ r ≡ wordAt (now (s .entry)) at ⌝ }
-{
-    (s[at] as u32) * 0x1000000
-        + (s[at + 1] as u32) * 0x10000
-        + (s[at + 2] as u32) * 0x100
-        + (s[at + 3] as u32)
-}
+ghost use Rattle.sha256.specs.Standard.{bytes, bytesOf};
 
 // The four bytes of a word.
 pub fn bytes_of_word(x: u32) -> [u8; 4]
@@ -54,4 +44,19 @@ pub fn lay(buffer: &mut [u8], at: usize, part: &[u8])
         buffer[at + j] = part[j];
         j += 1;
     }
+}
+
+// The bytes of a hash value, word by word.
+pub fn bytes_of(v: Words) -> [u8; 32]
+    ensures { λ r. ⌜ r ≡ bytesOf v ⌝ }
+{
+    let words = [v.a, v.b, v.c, v.d, v.e, v.f, v.g, v.h];
+    let mut out = [0u8; 32];
+    let mut i: usize = 0;
+    while i < 8 {
+        let bytes = bytes_of_word(words[i]);
+        lay(&mut out, 4 * i, &bytes);
+        i += 1;
+    }
+    out
 }

@@ -4,11 +4,8 @@ use refusals::buffer::CHOICES;
 use refusals::number::SHAPE;
 ghost use Rattle.sha256.specs.Call.{Hashes};
 
-pub mod block;
 mod bytes;
-mod constants;
 pub mod stream;
-mod word;
 
 // The most bytes that the hash call takes.
 pub const LONGEST: usize = 65535;

@@ -1,10 +1,10 @@
 // SHA-256 of a message that comes in parts: `start`, `absorb` each part, `finish`. No part is copied to another.
-use crate::block::Words;
-use crate::block::bytes_of;
-use crate::block::compress;
+use crate::bytes::bytes_of;
 use crate::bytes::bytes_of_count;
 use crate::bytes::lay;
-use crate::constants::initial;
+use compression::Words;
+use compression::compress;
+use compression::constants::initial;
 ghost use mathlib.Core.Path.{_≡_};
 ghost use mathlib.Core.List.{List, [], _++_};
 ghost use Prim.Native.Nat.{ℕ, _+_, _%_, _<_, _≤_, _^_};

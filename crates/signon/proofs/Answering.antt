@@ -8,9 +8,9 @@ use borrow.Author.Tests.{ne-eqb}
 use lib.Dec.{eqb}
 use Rattle.refusals.specs.Told.{Told, done, refused}
 use Rattle.algebra.specs.Lists.{over}
-use Rattle.frames.specs.declared.write.Written.{Written}
-use Rattle.frames.specs.declared.write.Written.the-variants.{Wrote, Refused}
-use Rattle.frames.specs.Writing.{writtenMeans, outAfter}
+use Rattle.writers.specs.declared.Written.{Written}
+use Rattle.writers.specs.declared.Written.the-variants.{Wrote, Refused}
+use Rattle.writers.specs.Writing.{writtenMeans, outAfter}
 use Rattle.card_checks.specs.declared.session.Session.{Session}
 use Rattle.card_checks.specs.Keys.{Keys}
 use Rattle.card.specs.Steps.{unlessRefused, beginTold, answerTold, openTold}

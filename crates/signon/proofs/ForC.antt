@@ -3,7 +3,7 @@ use mathlib.Core.Path.{_≡_, ap, _∙_}
 use mathlib.Core.List.{List}
 use Prim.Native.Nat.{ℕ}
 use lib.ListN.{length}
-use Rattle.frames.specs.Writing.{writtenMeans}
+use Rattle.writers.specs.Writing.{writtenMeans}
 use Rattle.card_checks.specs.declared.session.Session.{Session}
 use Rattle.card_checks.specs.Keys.{Keys}
 use Rattle.card.specs.declared.Step.{Step}

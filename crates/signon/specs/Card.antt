@@ -6,7 +6,7 @@ use lib.ListN.{length}
 use Rattle.algebra.specs.Lists.{over}
 use Rattle.frames.specs.declared.kind.Kind.the-variants.{Commitments, Challenges, Answers, Openings}
 use Rattle.frames.specs.Reading.{restOf}
-use Rattle.frames.specs.Writing.{frame}
+use Rattle.writers.specs.Writing.{frame}
 use Rattle.card_checks.specs.declared.session.Session.{Session}
 use Rattle.card_checks.specs.Keys.{Keys, placesOf}
 use Rattle.card.specs.Steps.{beginTold, begun, commitmentsOf, answerTold, answered, answersOf, openTold, closed, openingsOf, zeroed}

@@ -1,8 +1,8 @@
 // Answers of the calls as C takes them.
 use crate::Answer;
-use frames::write::Written;
+use writers::Written;
 ghost use mathlib.Core.Path.{_≡_};
-ghost use Rattle.frames.specs.Writing.{writtenMeans};
+ghost use Rattle.writers.specs.Writing.{writtenMeans};
 ghost use Rattle.signon.specs.Answers.{answerOf};
 
 // The answer of a call that writes.

@@ -15,11 +15,11 @@ use Rattle.refusals.specs.Told.{Told, done, fine, first, demand}
 use Rattle.refusals.proofs.Chain.{Passed, first-done}
 use Rattle.algebra.specs.Residues.{modulus}
 use Rattle.frames.specs.declared.kind.Kind.the-variants.{System, Public}
-use Rattle.frames.specs.declared.write.Written.{Written}
-use Rattle.frames.specs.declared.write.Written.the-variants.{Wrote, Refused}
+use Rattle.writers.specs.declared.Written.{Written}
+use Rattle.writers.specs.declared.Written.the-variants.{Wrote, Refused}
 use Rattle.frames.specs.Reading.{firstOf, secondOf, restOf}
-use Rattle.frames.specs.Writing.{outAfter}
-use Rattle.frames.proofs.Outcomes.{written-fixes}
+use Rattle.writers.specs.Writing.{outAfter}
+use Rattle.writers.proofs.Outcomes.{written-fixes}
 use Rattle.round.specs.Round.{systemOf, passes}
 use Rattle.round.proofs.Laws.{stand-in-passes}
 use Rattle.stand_in.specs.Standing.{lentCheck, roundSize, standing, standInOf, roundBytes, StandsIn}

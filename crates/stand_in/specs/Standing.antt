@@ -9,10 +9,10 @@ use Rattle.refusals.specs.Buffer.{NONE, OUTPUT}
 use Rattle.refusals.specs.Told.{Told, done, first, demand}
 use Rattle.algebra.specs.Residues.{modulus}
 use Rattle.frames.specs.declared.kind.Kind.the-variants.{System, Public}
-use Rattle.frames.specs.declared.write.Written.{Written}
+use Rattle.writers.specs.declared.Written.{Written}
 use Rattle.frames.specs.Kinds.{alone, ofPlaces}
 use Rattle.frames.specs.Reading.{firstOf, secondOf, restOf, reading}
-use Rattle.frames.specs.Writing.{writtenMeans, outAfter}
+use Rattle.writers.specs.Writing.{writtenMeans, outAfter}
 use Rattle.frames.specs.Choosing.{vectorOf, permutationOf, choicesCheck}
 use Rattle.round.specs.Round.{systemOf, pair, Opened, standIn}
 

@@ -12,7 +12,7 @@ use Rattle.card.proofs.Parts.{answers-formed, card-parts, challenges-se
 use Rattle.card.specs.Steps.{answerTold, answered}
 use Rattle.frames.proofs.Facts.{size-small}
 use Rattle.frames.proofs.Orders.{rest-part}
-use Rattle.frames.specs.Writing.{frame}
+use Rattle.writers.specs.Writing.{frame}
 use Rattle.frames.specs.declared.kind.Kind.the-variants.{Answers, Challenges}
 use Rattle.refusals.proofs.Chain.{goes-on, stops}
 use Rattle.refusals.specs.Told.{means}

@@ -10,7 +10,7 @@ use Rattle.card_checks.proofs.Facts.{BeginFits, begin-told}
 use Rattle.card_checks.specs.Keys.{keys}
 use Rattle.card.proofs.Parts.{commitments-formed, key-parts, system-part}
 use Rattle.card.specs.Steps.{beginTold, begun}
-use Rattle.frames.specs.Writing.{frame}
+use Rattle.writers.specs.Writing.{frame}
 use Rattle.frames.specs.declared.kind.Kind.the-variants.{Commitments}
 use Rattle.refusals.proofs.Chain.{goes-on, stops}
 use Rattle.refusals.specs.Told.{means}

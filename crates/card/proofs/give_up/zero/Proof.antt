@@ -5,7 +5,6 @@ use Prim.Native.Nat.{_-_, _≤_}
 use native.Mathlib.Omega.{arith}
 use lib.ListN.{length, drop, replicate, length-set}
 use lib.Seq.{drop-length}
-use Rattle.sha256.specs.Standard.{bytes}
 use borrow.Author.Fill.{fill-more, fill-none}
 use Rattle.card.proofs.give_up.zero.Statement.{statement}
 use Rattle.card.proofs.give_up.zero.Tie as tie

@@ -13,7 +13,7 @@ use Rattle.card.proofs.Parts.{bits-sent, key-parts, openings-formed}
 use Rattle.card.specs.Steps.{closed, openTold}
 use Rattle.frames.proofs.Facts.{size-small}
 use Rattle.frames.proofs.Orders.{rest-part}
-use Rattle.frames.specs.Writing.{frame}
+use Rattle.writers.specs.Writing.{frame}
 use Rattle.frames.specs.declared.kind.Kind.the-variants.{Bits, Openings}
 use Rattle.refusals.proofs.Chain.{goes-on, stops}
 use Rattle.refusals.specs.Told.{means}

@@ -10,7 +10,7 @@ use Rattle.algebra.proofs.Lists.{length-joined}
 use Rattle.algebra.specs.Lists.{joined}
 use Rattle.card.proofs.Parts.{body-written}
 use Rattle.frames.proofs.Facts.{size-small}
-use Rattle.frames.specs.PackedBits.{bitAt}
+use Rattle.packed_bits.specs.PackedBits.{bitAt}
 use Rattle.frames.specs.declared.kind.Kind.the-variants.{Openings}
 use Rattle.rounds.proofs.Runs.{opening-length}
 use Rattle.rounds.specs.Rounds.{openingAt}

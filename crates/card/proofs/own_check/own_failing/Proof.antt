@@ -9,7 +9,7 @@ use lib.ListN.{getD}
 use Rattle.algebra.proofs.Lists.{first-end, first-hit, first-skip}
 use Rattle.algebra.specs.Lists.{firstFrom}
 use Rattle.card.specs.Own.{ownFailing, ownFails, ownPasses}
-use Rattle.frames.specs.PackedBits.{bitAt}
+use Rattle.packed_bits.specs.PackedBits.{bitAt}
 use Rattle.round.specs.Round.{systemOf}
 use Rattle.rounds.proofs.Cuts.{vector-length}
 use Rattle.rounds.specs.Layout.{pairAt}

@@ -8,7 +8,6 @@ use Rattle.card_checks.specs.Keys.{keys}
 use Rattle.frames.proofs.Facts.{FrameFits, frame-fits}
 use Rattle.frames.proofs.Passing.{system-fits}
 use Rattle.frames.specs.Kinds.{alone}
-use Rattle.frames.specs.Writing.{frame}
 use Rattle.frames.specs.declared.kind.Kind.the-variants.{System}
 use Rattle.card_checks.proofs.key.check_keys.Statement.{statement}
 use Rattle.card_checks.proofs.key.check_keys.Tie as tie

@@ -9,9 +9,9 @@ use Rattle.refusals.specs.Buffer.{OUTPUT}
 use Rattle.refusals.specs.Number.{ROOM}
 use Rattle.algebra.specs.Drawings.{usedBy}
 use Rattle.algebra.proofs.Drawings.{enough-of}
-use Rattle.frames.specs.Clearing.{packedSize, cleared}
+use Rattle.packed_bits.specs.Clearing.{packedSize, cleared}
 use Rattle.frames.specs.Kinds.{within, alone}
-use Rattle.frames.specs.Writing.{frame}
+use Rattle.writers.specs.Writing.{frame}
 use Rattle.draw.specs.Telling.{refusal}
 use Rattle.frames.proofs.Facts.{within-told}
 use Rattle.draw.specs.Making.{drawBits}

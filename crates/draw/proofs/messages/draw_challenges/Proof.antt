@@ -8,7 +8,7 @@ use Rattle.refusals.specs.Buffer.{OUTPUT}
 use Rattle.refusals.specs.Number.{ROOM}
 use Rattle.algebra.proofs.Drawings.{enough-of}
 use Rattle.frames.specs.Kinds.{within, alone}
-use Rattle.frames.specs.Writing.{frame}
+use Rattle.writers.specs.Writing.{frame}
 use Rattle.draw.specs.Telling.{refusal}
 use Rattle.frames.proofs.Facts.{within-told}
 use Rattle.draw.specs.Making.{drawChallenges}

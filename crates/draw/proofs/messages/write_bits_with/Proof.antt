@@ -10,9 +10,9 @@ use Rattle.algebra.specs.Drawings.{Drawing, drawnOver}
 use Rattle.algebra.specs.Lists.{over}
 use Rattle.algebra.specs.Residues.{Residues}
 use Rattle.algebra.proofs.Lists.{front}
-use Rattle.frames.specs.Clearing.{packedSize, cleared}
-use Rattle.frames.specs.Writing.{frame}
-use Rattle.frames.proofs.Clearing.{length-cleared}
+use Rattle.packed_bits.specs.Clearing.{packedSize, cleared}
+use Rattle.writers.specs.Writing.{frame}
+use Rattle.packed_bits.proofs.Clearing.{length-cleared}
 use Rattle.draw.specs.Making.{drawBits}
 use Rattle.draw.specs.Sequences.{made, someBelow, byteLimit}
 use Rattle.draw.proofs.Sequences.{drew-of, Always, some-below}

@@ -10,7 +10,7 @@ use Rattle.algebra.specs.Drawings.{Drawing, drawnOver}
 use Rattle.algebra.specs.Lists.{over}
 use Rattle.algebra.specs.Residues.{modulus, Residues}
 use Rattle.algebra.proofs.Lists.{front}
-use Rattle.frames.specs.Writing.{frame}
+use Rattle.writers.specs.Writing.{frame}
 use Rattle.draw.specs.Making.{drawChallenges}
 use Rattle.draw.specs.Sequences.{made, drawResidues}
 use Rattle.draw.proofs.Sequences.{drew-of, Always, some-below}

@@ -6,7 +6,6 @@ use Rattle.frames.proofs.Facts.{FrameFits, frame-fits}
 use Rattle.frames.proofs.Orders.{frame-goes-on, frame-stops}
 use Rattle.frames.proofs.Passing.{system-fits}
 use Rattle.frames.specs.Kinds.{Modest, alone}
-use Rattle.frames.specs.Writing.{frame}
 use Rattle.frames.specs.declared.kind.Kind.the-variants.{System}
 use Rattle.register.specs.Verdict.{basisCheck}
 use Rattle.register.proofs.check.check_basis.Statement.{statement}

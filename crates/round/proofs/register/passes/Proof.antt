@@ -3,7 +3,8 @@ use mathlib.Core.Path.{ap, _∙_}
 use mathlib.Core.List.{List}
 use Prim.Native.Nat.{ℕ}
 use borrow.Author.Needs.{needs}
-use Rattle.round.specs.Round.{passes, sameBytes}
+use Rattle.algebra.specs.Lists.{sameBytes}
+use Rattle.round.specs.Round.{passes}
 use Rattle.round.proofs.register.passes.Statement.{statement}
 use Rattle.round.proofs.register.passes.Tie as tie
 

@@ -4,7 +4,7 @@ use Prim.Native.Nat.{_-_, _≤_}
 use native.Mathlib.Omega.{arith}
 use borrow.Author.Needs.{needs}
 use lib.ListN.{length, drop}
-use Rattle.round.specs.Round.{sameBytes}
+use Rattle.algebra.specs.Lists.{sameBytes}
 use Rattle.round.proofs.Rooms.{same-end, same-differ, same-skip}
 use Rattle.round.proofs.register.same_bytes.Statement.{statement}
 use Rattle.round.proofs.register.same_bytes.Tie as tie

@@ -4,7 +4,7 @@ use Prim.Native.Nat.{_-_, _≤_}
 use native.Mathlib.Omega.{arith}
 use borrow.Author.Needs.{needs}
 use Rattle.algebra.proofs.Lists.{stretch-fits, Joining, joining-none, joining-more}
-use Rattle.frames.specs.PackedBits.{bitAt}
+use Rattle.packed_bits.specs.PackedBits.{bitAt}
 use Rattle.rounds.specs.Rounds.{openingAt}
 use Rattle.rounds.proofs.Runs.{opening-length}
 use Rattle.rounds.proofs.card.open_all.Statement.{statement}

@@ -1,0 +1,3 @@
+-- Laws of the compression.
+pub mod Choice
+pub mod Loops

@@ -1,0 +1,2 @@
+-- Key making.
+pub mod Key

@@ -1,0 +1,3 @@
+-- Packed bits, and unused ones cleared.
+pub mod PackedBits
+pub mod Clearing

@@ -1,0 +1,3 @@
+-- Writers: what they tell and write, and the values of a body.
+pub mod Values
+pub mod Writing
