@@ -11,16 +11,17 @@ from thin import LENT, SHARED, Walk
 
 ROOT = Path(__file__).resolve().parents[1]
 RECORD = "card_checks::session::Session"
+ANSWER, TOLD = "signon::steps::Stepped", "signon::Answer"
 KEYS = [("system", SHARED), ("public", SHARED), ("secret", SHARED)]
 ALL_KEYS = "(keys {system} {public} {secret})"
 USE_KEYS = "use Rattle.card_checks.specs.Keys.{keys}"
 
 
 def stepping(name, step, signature, contract, fact):
-    """A call that answers: the contract is a record of specs/Card.antt."""
-    uses = [USE_KEYS, f"use Rattle.signon.specs.Card.{{{contract}}}"]
-    types = {"answer": "signon::steps::Stepped", "told": "signon::Answer"}
-    return Walk(f"signon::session::{name}", f"signon::steps::{step}", RECORD, signature, f"{contract} {fact}", uses, **types)
+    uses = [f"use Rattle.signon.specs.Card.{{{contract}}}"]
+    if ALL_KEYS in fact:
+        uses = [USE_KEYS, *uses]
+    return Walk(f"signon::session::{name}", f"signon::steps::{step}", RECORD, signature, ANSWER, TOLD, f"{contract} {fact}", uses)
 
 
 WALKS = [
@@ -34,24 +35,23 @@ WALKS = [
     stepping(
         "signon_answer_challenges",
         "answer_for_c",
-        [*KEYS, ("message", SHARED), ("choices", SHARED), ("out", LENT)],
+        [*KEYS, ("challenges", SHARED), ("choices", SHARED), ("out", LENT)],
         "AnswerForC",
-        "{record} " + ALL_KEYS + " {message} {choices} {out} {told} {next} {out_after}",
+        "{record} " + ALL_KEYS + " {challenges} {choices} {out} {told} {next} {out_after}",
     ),
     stepping(
         "signon_open",
         "open_for_c",
-        [*KEYS, ("message", SHARED), ("choices", LENT), ("out", LENT)],
+        [*KEYS, ("bits", SHARED), ("choices", LENT), ("out", LENT)],
         "OpenForC",
-        "{record} " + ALL_KEYS + " {message} {choices} {out} {told} {next} {choices_after} {out_after}",
+        "{record} " + ALL_KEYS + " {bits} {choices} {out} {told} {next} {choices_after} {out_after}",
     ),
-    Walk(
-        "signon::session::signon_give_up",
-        "card::give_up::give_up_step",
-        RECORD,
+    stepping(
+        "signon_give_up",
+        "give_up_for_c",
         [("choices", LENT)],
-        "GiveUpStep {record} {choices} {next} {choices_after}",
-        ["use Rattle.card.specs.Steps.{GiveUpStep}"],
+        "GiveUpForC",
+        "{record} {choices} {told} {next} {choices_after}",
     ),
 ]
 

@@ -1,27 +1,21 @@
-/* The proved verdict beside plain C, interleaved in one process: C's time over ours, so 1 is C's speed and more is faster. Each ratio is of two
-   times taken one after the other, and their median is told: a machine that changes its speed now and then spoils few of them. */
-#include "plain.h"
+/* The proved verdict beside plain C, interleaved in one process. The arguments are files with the verdict program's input, which is cut into frames once,
+   before a time is taken. */
+#include "calls.h"
+#include "pairs.h"
 
 #include <stdio.h>
 #include <stdlib.h>
 #include <string.h>
-#include <time.h>
 
-/* register_judge of crates/register_for_c: a slice is a pointer and a length. */
-struct answer register_judge(const uint8_t *input, size_t length);
-
-typedef struct answer judge(const uint8_t *input, size_t length);
-
-enum { PAIRS = 501, TURNS = 4, LONGEST = 65536 };
+enum { TURNS = 4, LONGEST = 65536 };
 
 static uint8_t input[LONGEST];
 
-static uint64_t now(void)
-{
-    struct timespec t;
-    clock_gettime(CLOCK_MONOTONIC, &t);
-    return (uint64_t)t.tv_sec * 1000000000u + (uint64_t)t.tv_nsec;
-}
+/* A sign-on as the verdict program cuts it. */
+struct sign_on {
+    size_t grade;
+    struct bytes frames[FRAMES];
+};
 
 static size_t load(const char *path)
 {
@@ -30,15 +24,42 @@ static size_t load(const char *path)
         perror(path);
         exit(1);
     }
-    size_t length = fread(input, 1, sizeof input, file);
+    size_t size = fread(input, 1, sizeof input, file);
     fclose(file);
-    return length;
+    return size;
+}
+
+/* Takes the frame in front off the rest, by its count. */
+static struct bytes cut(struct bytes *rest)
+{
+    struct bytes frame = *rest;
+    if (frame.size >= 2) {
+        size_t whole = frame.at[0] * 256u + frame.at[1] + 2;
+        if (whole < frame.size)
+            frame.size = whole;
+    }
+    rest->at += frame.size;
+    rest->size -= frame.size;
+    return frame;
+}
+
+/* Bytes left over belong to the last frame. */
+static struct sign_on sign_on_of(size_t size)
+{
+    size_t skipped = size == 0 ? 0 : 1;
+    struct sign_on s = {size == 0 ? 0 : input[0], {{0}}};
+    struct bytes rest = {input + skipped, size - skipped};
+    for (int i = 0; i < FRAMES - 1; i++)
+        s.frames[i] = cut(&rest);
+    s.frames[FRAMES - 1] = rest;
+    return s;
 }
 
 /* Both verifiers have to give the same answer. */
-static struct answer same(const char *path, size_t length, const char *damage, size_t at)
+static struct signon_answer same(const char *path, size_t size, const char *damage, size_t at)
 {
-    struct answer ours = register_judge(input, length), plain = plain_judge(input, length);
+    struct sign_on s = sign_on_of(size);
+    struct signon_answer ours = proved_verdict(s.grade, s.frames), plain = plain_verdict(s.grade, s.frames);
     if (ours.number != plain.number || ours.buffer != plain.buffer || ours.place != plain.place) {
         printf("%s, %s %zu: %d %d %zu, and %d %d %zu by plain C\n", path, damage, at, ours.number, ours.buffer, (size_t)ours.place, plain.number,
                plain.buffer, (size_t)plain.place);
@@ -48,58 +69,50 @@ static struct answer same(const char *path, size_t length, const char *damage, s
 }
 
 /* The honest sign-on is accepted; with each byte changed in two ways, and cut short at each length, both say the same. */
-static void compare(const char *path, size_t length)
+static void compare(const char *path, size_t size)
 {
-    if (same(path, length, "undamaged at", 0).number != 0) {
+    if (same(path, size, "undamaged at", 0).number != SIGNON_DONE) {
         printf("%s is not accepted\n", path);
         exit(1);
     }
-    for (size_t i = 0; i < length; i++) {
+    for (size_t i = 0; i < size; i++) {
         uint8_t kept = input[i];
         input[i] = kept ^ 1;
-        same(path, length, "changed by 1 at", i);
+        same(path, size, "changed by 1 at", i);
         input[i] = kept ^ 255;
-        same(path, length, "changed by 255 at", i);
+        same(path, size, "changed by 255 at", i);
         input[i] = kept;
         same(path, i, "cut at", i);
     }
-    input[length] = 0;
-    same(path, length + 1, "longer than", length);
+    input[size] = 0;
+    same(path, size + 1, "longer than", size);
 }
 
-static uint64_t time_of(judge *verdict, size_t length)
+static void has_to_accept(struct signon_answer answer)
 {
-    uint64_t began = now();
-    for (int i = 0; i < TURNS; i++)
-        if (verdict(input, length).number != 0)
-            abort();
-    return now() - began;
+    if (answer.number != SIGNON_DONE)
+        abort();
 }
 
-static int by_value(const void *a, const void *b)
+static void judge_ours(void *with)
 {
-    double x = *(const double *)a, y = *(const double *)b;
-    return (x > y) - (x < y);
+    const struct sign_on *s = with;
+    has_to_accept(proved_verdict(s->grade, s->frames));
 }
 
-/* C's time over ours. Which of them goes first changes from pair to pair. */
-static double ratio_of_pair(size_t length, int ours_first)
+static void judge_plain(void *with)
 {
-    uint64_t first = time_of(ours_first ? register_judge : plain_judge, length);
-    uint64_t second = time_of(ours_first ? plain_judge : register_judge, length);
-    return ours_first ? (double)second / (double)first : (double)first / (double)second;
+    const struct sign_on *s = with;
+    has_to_accept(plain_verdict(s->grade, s->frames));
 }
 
 static void measure(const char *path)
 {
-    static double ratios[PAIRS];
-    size_t length = load(path);
-    compare(path, length);
-    for (int i = 0; i < PAIRS; i++)
-        ratios[i] = ratio_of_pair(length, i % 2);
-    qsort(ratios, PAIRS, sizeof *ratios, by_value);
+    size_t size = load(path);
+    compare(path, size);
+    struct sign_on s = sign_on_of(size);
     const char *name = strrchr(path, '/');
-    printf("%s %.3f\n", name == NULL ? path : name + 1, ratios[PAIRS / 2]);
+    printf("%s %.3f\n", name == NULL ? path : name + 1, median_ratio(judge_ours, judge_plain, &s, TURNS));
 }
 
 int main(int count, char **paths)

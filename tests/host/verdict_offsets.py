@@ -1,29 +1,24 @@
-#!/usr/bin/env python3
 """Runs the program `verdict` on an honest sign-on, on the same with one byte changed at every offset in turn, and on inputs of every length,
 and holds each line that it prints to the model's.
-
-    python3 tests/host/verdict_offsets.py [PROGRAM]
-
-PROGRAM is target/bin/verdict where none is named. Exit status 1 where a line differs.
 """
 import subprocess
 import sys
 import time
 from itertools import chain
 from multiprocessing import Pool, cpu_count
-from pathlib import Path
 
-ROOT = Path(__file__).resolve().parents[2]
+from host import ROOT, Failed
+
 sys.path.insert(0, str(ROOT / "tests" / "model"))
 
 from check import SAMPLE
 from program_input import honest_input
 from signon import PROGRAM_READS, verdict_line
 
-PROGRAM = sys.argv[1] if len(sys.argv) > 1 else str(ROOT / "target" / "bin" / "verdict")
+PROGRAM = ROOT / "target" / "bin" / "verdict"
 HONEST = honest_input("every offset", 2, 64, 37, 31)
 SHOWN = 5
-"""How many of the lines that differ are printed."""
+"""How many of the lines that differ are shown."""
 
 
 # --- Inputs, each with its name ---
@@ -97,16 +92,11 @@ def fixed():
     yield "no input", printed(b""), "refused 1 1 0\n"
 
 
-def main():
+def check():
     with Pool(cpu_count()) as pool:
         lines = [*fixed(), *pool.imap(compared, inputs(), chunksize=32)]
-    wrong = [line for line in lines if line[1] != line[2]]
-    for name, got, wanted in wrong[:SHOWN]:
-        print(f"{name}: {got!r}, not {wanted!r}")
+    wrong = [f"{name}: {got!r}, not {wanted!r}" for name, got, wanted in lines if got != wanted]
+    if wrong:
+        raise Failed("\n".join([f"{len(wrong)} lines differ", *wrong[:SHOWN]]))
     accepted = sum(wanted.startswith("accepted") for _, _, wanted in lines)
-    print(f"verdict: {len(lines)} inputs, {len(HONEST)} of them with one byte changed; {accepted} accepted; {len(wrong)} lines differ")
-    sys.exit(1 if wrong else 0)
-
-
-if __name__ == "__main__":
-    main()
+    return f"{len(lines)} inputs, {len(HONEST)} of them with one byte changed; {accepted} accepted"

@@ -8,7 +8,7 @@ use Rattle.refusals.specs.declared.Refusal.{Refusal}
 use Rattle.refusals.specs.Number.{STAGE, SELF}
 use Rattle.refusals.specs.Buffer.{CHOICES}
 use Rattle.refusals.specs.Told.{Told, done, first}
-use Rattle.refusals.proofs.Chain.{first-done, UpTo, done-most, demand-most, first-most, most-more}
+use Rattle.refusals.proofs.Chain.{ends-done, UpTo, done-most, demand-most, first-most, most-more}
 use Rattle.writers.specs.declared.Written.{Written}
 use Rattle.writers.specs.declared.Written.the-variants.{Refused}
 use Rattle.writers.specs.Writing.{writtenMeans, outAfter}
@@ -91,9 +91,6 @@ one-give-up s choices a b u v p q = (p .moves ∙ sym (q .moves), p .clears ∙ 
 wrote-most : (check : Told) (bytes : ℕ) → UpTo STAGE check → UpTo SELF (first check (done (bytes ∷ [])))
 wrote-most check bytes h = first-most SELF check (done (bytes ∷ [])) (most-more STAGE SELF check (omega arith) h) (done-most SELF (bytes ∷ []))
 
-wrote-one : (check : Told) (bytes : ℕ) (values : List ℕ) → first check (done (bytes ∷ [])) ≡ done values → values ≡ bytes ∷ []
-wrote-one check bytes values e = let q = first-done check (done (bytes ∷ [])) values e .1 in cc
-
 module _ (s : Session) (N : ℕ) (k : Keys) (choices : List ℕ) (room : ℕ) where
   pub begin-told-most : UpTo SELF (beginTold s N k choices room)
   unfolding beginTold
@@ -101,7 +98,7 @@ module _ (s : Session) (N : ℕ) (k : Keys) (choices : List ℕ) (room : ℕ) wh
 
   pub begin-told-one : (values : List ℕ) → beginTold s N k choices room ≡ done values → values ≡ commitmentsSize N ∷ []
   unfolding beginTold
-  begin-told-one values e = wrote-one (beginCheck s N k choices room) (commitmentsSize N) values e
+  begin-told-one values e = ends-done (beginCheck s N k choices room) (commitmentsSize N ∷ []) values e
 
 module _ (s : Session) (k : Keys) (message choices : List ℕ) (room : ℕ) where
   pub answer-told-most : UpTo SELF (answerTold s k message choices room)
@@ -110,7 +107,7 @@ module _ (s : Session) (k : Keys) (message choices : List ℕ) (room : ℕ) wher
 
   pub answer-told-one : (values : List ℕ) → answerTold s k message choices room ≡ done values → values ≡ answersSize (placesOf k) (s .rounds) ∷ []
   unfolding answerTold
-  answer-told-one values e = wrote-one (answerCheck s k message choices room) (answersSize (placesOf k) (s .rounds)) values e
+  answer-told-one values e = ends-done (answerCheck s k message choices room) (answersSize (placesOf k) (s .rounds) ∷ []) values e
 
   pub open-told-most : UpTo SELF (openTold s k message choices room)
   unfolding openTold openRefusal ownCheck
@@ -125,4 +122,4 @@ module _ (s : Session) (k : Keys) (message choices : List ℕ) (room : ℕ) wher
 
   pub open-told-one : (values : List ℕ) → openTold s k message choices room ≡ done values → values ≡ openingsSize (placesOf k) (s .rounds) ∷ []
   unfolding openTold
-  open-told-one values e = wrote-one (openRefusal s k message choices room) (openingsSize (placesOf k) (s .rounds)) values e
+  open-told-one values e = ends-done (openRefusal s k message choices room) (openingsSize (placesOf k) (s .rounds) ∷ []) values e

@@ -1,4 +1,4 @@
--- No second outcome fits what the key check promises. It writes nothing. And the numbers that begin, answer and open refuse by.
+-- No second outcome fits what the key check promises. It writes nothing. And the numbers that the calls refuse by.
 use mathlib.Core.Path.{_≡_, sym, _∙_}
 use mathlib.Core.List.{List, []}
 use Prim.Native.Nat.{ℕ}
@@ -7,18 +7,16 @@ use lib.Dec.{eqb, leb}
 use Rattle.refusals.specs.declared.Checked.{Checked}
 use Rattle.refusals.specs.Number.{SHAPE, PERM, KEY, ROOM, STAGE}
 use Rattle.refusals.specs.Buffer.{NONE, SECRET, OUTPUT}
-use Rattle.refusals.specs.Told.{Told, fine, first, demand}
-use Rattle.refusals.proofs.Chain.{means-fixes, UpTo, done-most, demand-most, first-most, most-more, test-most}
-use Rattle.frames.specs.declared.kind.Kind.{Kind}
+use Rattle.refusals.specs.Told.{Told, done, fine, first, demand}
+use Rattle.refusals.proofs.Chain.{means-fixes, UpTo, first-done, demand-none, done-most, demand-most, first-most, most-more, test-most}
 use Rattle.frames.specs.declared.kind.Kind.the-variants.{System, Public, Secret, Challenges, Bits}
-use Rattle.frames.specs.declared.kind.Expected.{Expected}
 use Rattle.frames.specs.Kinds.{within, alone, ofPlaces, exactly}
 use Rattle.frames.specs.Reading.{reading}
 use Rattle.frames.specs.Choosing.{choicesCheck}
-use Rattle.frames.proofs.Outcomes.{reading-most, choices-most}
+use Rattle.frames.proofs.Outcomes.{frame-most, choices-most}
 use Rattle.card_checks.specs.declared.session.Session.{Session}
 use Rattle.card_checks.specs.Stages.{COMMITTED, ANSWERED}
-use Rattle.card_checks.specs.Keys.{Keys, placesOf, rowsOf, faultOf, keysCheck, validCheck, ChecksKey}
+use Rattle.card_checks.specs.Keys.{Keys, placesOf, rowsOf, faultOf, keysCheck, validCheck, keyCheck, ChecksKey}
 use Rattle.card_checks.specs.Asking.{staged, atRest, recordFits, keptFit, commitmentsSize, answersSize, openingsSize, restCheck, beginCheck, answerCheck, openCheck}
 use Rattle.card_checks.proofs.Orders.{rest-in-order, open-in-order}
 
@@ -27,11 +25,6 @@ one-key-check k a b p q = means-fixes a b (p .says ∙ sym (q .says))
 
 -- ---- the numbers up to STAGE
 
--- a test, and a frame, in front of a chain
-
-frame-most : (k : Kind) (e : Expected) (s : List ℕ) (rest : Told) → UpTo STAGE rest → UpTo STAGE (first (reading k e s) rest)
-frame-most k e s rest = first-most STAGE (reading k e s) rest (most-more PERM STAGE (reading k e s) (omega arith) (reading-most k e s))
-
 keys-most : (k : Keys) (rest : Told) → UpTo STAGE rest → UpTo STAGE (first (keysCheck k) rest)
 unfolding keysCheck
 keys-most k rest =
@@ -39,7 +32,22 @@ keys-most k rest =
     let r3 : Told = first (reading Secret e (k .secret)) fine in
     let r2 : Told = first (reading Public e (k .public)) r3 in
     first-most STAGE (first (reading System alone (k .system)) r2) rest
-    (frame-most System alone (k .system) r2 (frame-most Public e (k .public) r3 (frame-most Secret e (k .secret) fine (done-most STAGE []))))
+    (frame-most STAGE System alone (k .system) r2 (omega arith)
+    (frame-most STAGE Public e (k .public) r3 (omega arith)
+    (frame-most STAGE Secret e (k .secret) fine (omega arith) (done-most STAGE []))))
+
+-- the key check, which tells no value
+pub key-most : (k : Keys) → UpTo STAGE (keyCheck k)
+unfolding keyCheck validCheck
+key-most k =
+    let valid = eqb (faultOf k) (rowsOf k) in
+    keys-most k (demand valid KEY SECRET (faultOf k)) (demand-most STAGE valid KEY SECRET (faultOf k) (omega arith) (omega arith))
+
+pub key-none : (k : Keys) (values : List ℕ) → keyCheck k ≡ done values → values ≡ []
+unfolding keyCheck validCheck
+key-none k values e =
+    let valid = eqb (faultOf k) (rowsOf k) in
+    demand-none valid KEY SECRET (faultOf k) values (first-done (keysCheck k) (demand valid KEY SECRET (faultOf k)) values e .1)
 
 rest-most : (k : Keys) (N : ℕ) (choices : List ℕ) (need room : ℕ) → UpTo STAGE (restCheck k N choices need room)
 unfolding validCheck
@@ -75,7 +83,7 @@ module _ (s : Session) (k : Keys) (message choices : List ℕ) (room : ℕ) wher
       test-most STAGE (eqb (s .stage) COMMITTED) STAGE NONE 0 (first (keysCheck k) r3) (omega arith) (omega arith)
       (keys-most k r3
       (test-most STAGE (recordFits s n (rowsOf k)) STAGE NONE 0 r4 (omega arith) (omega arith)
-      (frame-most Challenges (exactly n N) message r5 (rest-most k N choices (answersSize n N) room))))
+      (frame-most STAGE Challenges (exactly n N) message r5 (omega arith) (rest-most k N choices (answersSize n N) room))))
 
   pub open-most : UpTo STAGE (openCheck s k message choices room)
   open-most =
@@ -90,5 +98,5 @@ module _ (s : Session) (k : Keys) (message choices : List ℕ) (room : ℕ) wher
       (keys-most k r3
       (test-most STAGE (recordFits s n (rowsOf k)) STAGE NONE 0 r4 (omega arith) (omega arith)
       (test-most STAGE (keptFit N (s .challenges)) STAGE NONE 0 r5 (omega arith) (omega arith)
-      (frame-most Bits (exactly n N) message r6 (rest-most k N choices (openingsSize n N) room))))) in
+      (frame-most STAGE Bits (exactly n N) message r6 (omega arith) (rest-most k N choices (openingsSize n N) room))))) in
       rw (open-in-order s k message choices room) h

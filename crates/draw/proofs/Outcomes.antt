@@ -1,4 +1,4 @@
--- For each call: no second outcome fits what it promises, and a refused call changes nothing. One record serves them all.
+-- For each call: no second outcome fits what it promises, and a refused call changes nothing. One record serves them all. And what it tells.
 use mathlib.Core.Path.{_≡_, refl, sym, ap, _∙_}
 use mathlib.Core.List.{List, [], _∷_}
 use Prim.Native.Nat.{ℕ}
@@ -6,10 +6,10 @@ use native.Mathlib.Omega.{arith}
 use lib.Dec.{leb}
 use lib.ListN.{length, getD}
 use Rattle.refusals.specs.declared.Refusal.{Refusal}
-use Rattle.refusals.specs.Number.{ROOM}
+use Rattle.refusals.specs.Number.{ROOM, DRAW}
 use Rattle.refusals.specs.Buffer.{OUTPUT}
 use Rattle.refusals.specs.Told.{Told, done, refused, first, demand}
-use Rattle.refusals.proofs.Chain.{first-done}
+use Rattle.refusals.proofs.Chain.{UpTo, first-done, done-most, first-most, test-most}
 use Rattle.algebra.specs.Lists.{over}
 use Rattle.algebra.specs.Drawings.{Drawing, drew, ranOut}
 use Rattle.algebra.specs.declared.draw.Used.{Used}
@@ -49,3 +49,28 @@ module _ (numbers : Told) (need : ℕ) (random out : List ℕ) (used : ℕ) (aft
       → (s : List ℕ) × (drawing ≡ drew s used) × (after ≡ over s out)
   taken-drew (drew s p) d = let e = told-used (To p) (d .says) in let q : p ≡ used = cc in (s, ap (drew s) q, d .writes)
   taken-drew ranOut d = let e = told-used RanOut (d .says) in let z : _≡_ {A = ℕ} 0 1 = cc in absurd (omega arith)
+
+-- ---- what a drawing tells: one value, the bytes used, or a refusal by the numbers up to DRAW where its numbers and frames refuse by those
+
+used-most : (used : Used) (lent : ℕ) → UpTo DRAW (usedTold used lent)
+used-most (To used) lent = done-most DRAW (used ∷ [])
+used-most RanOut lent = λ k l p e. let q : DRAW ≡ k = cc in (omega arith, omega arith)
+
+used-one : (used : Used) (lent : ℕ) (values : List ℕ) → usedTold used lent ≡ done values → (bytes : ℕ) × (values ≡ bytes ∷ [])
+used-one (To used) lent values e = (used, cc)
+used-one RanOut lent values e = let z : _≡_ {A = ℕ} 0 1 = cc in absurd (omega arith)
+
+module _ (numbers : Told) (need room : ℕ) (used : Used) (lent : ℕ) where
+  pub telling-most : UpTo DRAW numbers → UpTo DRAW (telling numbers need room used lent)
+  unfolding telling
+  telling-most h =
+      let rest = usedTold used lent in
+      first-most DRAW numbers (first (demand (leb need room) ROOM OUTPUT need) rest) h
+      (test-most DRAW (leb need room) ROOM OUTPUT need rest (omega arith) (omega arith) (used-most used lent))
+
+  pub telling-one : (values : List ℕ) → telling numbers need room used lent ≡ done values → (bytes : ℕ) × (values ≡ bytes ∷ [])
+  unfolding telling
+  telling-one values e =
+      let full = demand (leb need room) ROOM OUTPUT need in
+      let rest = usedTold used lent in
+      used-one used lent values (first-done full rest values (first-done numbers (first full rest) values e .1) .1)

@@ -1,15 +1,15 @@
 -- For each call: no second outcome fits what it promises, and a refused call changes nothing.
 use mathlib.Core.Path.{_≡_, refl, sym, ap, _∙_}
 use mathlib.Core.List.{List, [], _∷_}
-use Prim.Native.Nat.{ℕ, _+_, _*_}
+use Prim.Native.Nat.{ℕ, _+_, _*_, _≤_}
 use native.Mathlib.Omega.{arith}
 use lib.Dec.{eqb, ltb, leb}
 use lib.ListN.{length, getD}
 use Rattle.refusals.specs.Number.{SHORT, LONG, VERSION, KIND, SHAPE, VALUE, PERM}
 use Rattle.refusals.specs.declared.Checked.{Checked}
-use Rattle.refusals.specs.Buffer.{CHOICES}
+use Rattle.refusals.specs.Buffer.{NONE, CHOICES}
 use Rattle.refusals.specs.Told.{Told, done, refused, means, first, firstBelow, demand}
-use Rattle.refusals.proofs.Chain.{means-fixes, UpTo, done-most, demand-most, first-most, below-most, test-most}
+use Rattle.refusals.proofs.Chain.{means-fixes, UpTo, done-most, demand-most, first-most, below-most, test-most, most-more}
 use Rattle.algebra.specs.Lists.{stretch}
 use Rattle.algebra.specs.Residues.{modulus}
 use Rattle.algebra.specs.Permutations.{isPerm}
@@ -18,7 +18,7 @@ use Rattle.frames.specs.declared.kind.Kind.the-variants.{System, Public,
 use Rattle.frames.specs.declared.kind.Expected.{Expected}
 use Rattle.frames.specs.declared.read.Read.{Read}
 use Rattle.frames.specs.declared.read.Read.the-variants.{Frame, Refused}
-use Rattle.frames.specs.Kinds.{table}
+use Rattle.frames.specs.Kinds.{alone, table}
 use Rattle.frames.specs.Reading.{countOf, header, firstOf, secondOf, restOf, shape, residueAt, values, permutationAt, permutations, content, reading, readMeans, Reads, openingCheck}
 use Rattle.frames.specs.Choosing.{choiceSize, choiceOf, vectorOf, permutationOf, choiceCheck, choiceAt, choicesCheck}
 
@@ -46,7 +46,7 @@ unfolding permutations
 permutations-most b n at count l =
     below-most PERM count (permutationAt b n at l) (λ k. demand-most PERM (isPerm n (stretch n k l)) PERM b (at + k * n) (omega arith) (omega arith))
 
-content-most : (k : Kind) (a b at : ℕ) (rest : List ℕ) → UpTo PERM (content k a b at rest)
+pub content-most : (k : Kind) (a b at : ℕ) (rest : List ℕ) → UpTo PERM (content k a b at rest)
 content-most System a b at rest = values-most _ at rest
 content-most Public a b at rest = values-most _ at rest
 content-most Secret a b at rest = permutations-most _ a at 1 rest
@@ -55,8 +55,6 @@ content-most Challenges a b at rest = values-most _ at rest
 content-most Answers a b at rest = values-most _ at rest
 content-most Bits a b at rest = done-most PERM []
 content-most Openings a b at rest = permutations-most _ a at b rest
-
--- a test in front of a chain
 
 header-most : (k : Kind) (s : List ℕ) → UpTo PERM (header k s)
 unfolding header
@@ -81,7 +79,11 @@ reading-most k e s =
     (test-most PERM (shape k e s) SHAPE (table k .buffer) 4 (first body (done values)) (omega arith) (omega arith)
     (first-most PERM body (done values) (content-most k (firstOf s) (secondOf k s) (table k .start) (restOf k s)) (done-most PERM values)))
 
--- and so does the check of choices
+-- a frame in front of a chain
+pub frame-most : (most : ℕ) (k : Kind) (e : Expected) (s : List ℕ) (rest : Told) → PERM ≤ most → UpTo most rest → UpTo most (first (reading k e s) rest)
+frame-most most k e s rest h = first-most most (reading k e s) rest (most-more PERM most (reading k e s) h (reading-most k e s))
+
+-- the check of choices refuses by the numbers up to PERM too
 choice-most : (n at : ℕ) (choice : List ℕ) → UpTo PERM (choiceCheck n at choice)
 unfolding choiceCheck
 choice-most n at choice =
@@ -100,3 +102,11 @@ choices-most n N choices =
 
 pub one-opening-check : (s : List ℕ) (round : ℕ) (a b : Checked) → means a ≡ openingCheck s round → means b ≡ openingCheck s round → a ≡ b
 one-opening-check s round a b p q = means-fixes a b (p ∙ sym q)
+
+-- it refuses by the numbers up to PERM too
+pub opening-most : (s : List ℕ) (round : ℕ) → UpTo PERM (openingCheck s round)
+unfolding openingCheck
+opening-most s round =
+    let test = ltb round (secondOf Openings s) in
+    first-most PERM (reading Openings alone s) (demand test SHAPE NONE 0) (reading-most Openings alone s)
+    (demand-most PERM test SHAPE NONE 0 (omega arith) (omega arith))

@@ -56,6 +56,14 @@ pub demand-done : (test : Bool) (k l p : ℕ) (values : List ℕ) → demand tes
 demand-done true k l p values e = refl
 demand-done false k l p values e = let z : _≡_ {A = ℕ} 0 1 = cc in absurd (omega arith)
 
+-- the values of a success: those of the chain's end, and a test has none
+pub ends-done : (a : Told) (v values : List ℕ) → first a (done v) ≡ done values → values ≡ v
+ends-done a v values e = let q = first-done a (done v) values e .1 in cc
+
+pub demand-none : (test : Bool) (k l p : ℕ) (values : List ℕ) → demand test k l p ≡ done values → values ≡ []
+demand-none true k l p values e = cc
+demand-none false k l p values e = let z : _≡_ {A = ℕ} 0 1 = cc in absurd (omega arith)
+
 -- a refusal is this link's, or this one found nothing and it is the rest's
 pub first-refused : (a b : Told) (k l p : ℕ) → first a b ≡ refused k l p → (a ≡ refused k l p) ⊎ (Passed a × (b ≡ refused k l p))
 first-refused (done v) b k l p e = inr ((v, refl), e)

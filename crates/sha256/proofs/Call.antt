@@ -3,8 +3,10 @@ use mathlib.Core.List.{List}
 use mathlib.Core.Path.{_≡_, sym, ap, ap₂, _∙_}
 use Prim.Native.Nat.{ℕ, _≤_, _<_}
 use borrow.Author.Tests.{le-leb, lt-leb}
+use native.Mathlib.Omega.{arith}
+use lib.Dec.{leb}
 use lib.ListN.{length, replicate}
-use Rattle.refusals.proofs.Chain.{means-fixes}
+use Rattle.refusals.proofs.Chain.{means-fixes, UpTo, demand-most}
 use Rattle.refusals.specs.Buffer.{CHOICES}
 use Rattle.refusals.specs.Number.{SHAPE}
 use Rattle.refusals.specs.Told.{Told, refused, fine, means}
@@ -39,3 +41,8 @@ pub fine-shows-digest : (m : List ℕ) (r : Hashed) → Hashes m r → length m 
 fine-shows-digest m r h fits =
     let t : means (r .answer) ≡ fine = h .says ∙ sym (told-fine m fits) in
     (t, h .shows ∙ ap (λ (x : Told). shownOf x m) t)
+
+-- the call refuses by SHAPE alone
+pub told-most : (m : List ℕ) → UpTo SHAPE (toldOf m)
+unfolding toldOf
+told-most m = demand-most SHAPE (leb (length m) LONGEST) SHAPE CHOICES 0 (omega arith) (omega arith)

@@ -1,23 +1,84 @@
--- A step of crate card, with its answer as C takes it.
-use mathlib.Core.Path.{_≡_, ap, _∙_}
-use mathlib.Core.List.{List}
+-- What the calls promise, with their answers as C takes them.
+use mathlib.Core.Path.{_≡_, refl, sym, ap, _∙_}
+use mathlib.Core.List.{List, [], _∷_}
 use Prim.Native.Nat.{ℕ}
 use lib.ListN.{length}
-use Rattle.writers.specs.Writing.{writtenMeans}
+use Rattle.refusals.specs.declared.Refusal.{Refusal}
+use Rattle.refusals.specs.Number.{DRAW}
+use Rattle.refusals.specs.Told.{Told, done, told}
+use Rattle.refusals.proofs.Chain.{UpTo}
+use Rattle.algebra.specs.Lists.{over}
+use Rattle.algebra.specs.Drawings.{Drawing, usedBy, drawnOver}
+use Rattle.frames.specs.declared.kind.Kind.{Kind}
+use Rattle.writers.specs.declared.Written.{Written}
+use Rattle.writers.specs.declared.Written.the-variants.{Wrote, Refused}
+use Rattle.writers.specs.Writing.{writtenMeans, outAfter, Writes}
+use Rattle.draw.specs.declared.Taken.{Taken}
+use Rattle.draw.specs.declared.Taken.the-variants.{Bytes, Refused as NotTaken}
+use Rattle.draw.specs.Telling.{takenMeans, drawnAfter, Draws}
+use Rattle.stand_in.specs.Standing.{StandsIn}
 use Rattle.card_checks.specs.declared.session.Session.{Session}
 use Rattle.card_checks.specs.Keys.{Keys}
 use Rattle.card.specs.declared.Step.{Step}
-use Rattle.card.specs.Steps.{BeginStep, AnswerStep, OpenStep}
+use Rattle.card.specs.Steps.{unlessRefused, BeginStep, AnswerStep, OpenStep}
 use Rattle.signon.specs.declared.Answer.{Answer}
-use Rattle.signon.specs.Answers.{answerOf, Held}
+use Rattle.signon.specs.Answers.{answerOf, ifDone, Held}
 use Rattle.signon.specs.Card.{BeginForC, AnswerForC, OpenForC}
-use Rattle.signon.proofs.Answering.{begin-held, answer-held, open-held, left-by, output-by}
+use Rattle.signon.specs.Calls.{OutputForC, WriteForC, DrawForC, StandInForC}
+use Rattle.signon.proofs.Answering.{refused-left}
+use Rattle.signon.proofs.Holding.{one, begin-held, answer-held, open-held, write-held, stand-in-held, draw-held}
+
+-- ---- what is left, by the number of the answer
+
+left-by : {A : Type 0} (w : Written) → Held one (writtenMeans w) → (next was : A) → unlessRefused w next was ≡ ifDone (answerOf (writtenMeans w)) next was
+left-by (Wrote bytes) h next was = refl
+left-by (Refused r) h next was = refused-left one r h next was
+
+output-by : (w : Written) → Held one (writtenMeans w) → (l out : List ℕ) → outAfter w l out ≡ ifDone (answerOf (writtenMeans w)) (over l out) out
+output-by (Wrote bytes) h l out = refl
+output-by (Refused r) h l out = refused-left one r h (over l out) out
+
+-- ---- calls that write
+
+module _ (t : Told) (h : Held one t) (answer : Answer) (after filled out : List ℕ) where
+  pub done-for-c : (values : List ℕ) → t ≡ done values → answer ≡ answerOf (done values) → after ≡ filled → OutputForC t filled out answer after
+  done-for-c values q e p = record { says = rw q e; writes = rw e p }
+
+  pub refused-for-c : (r : Refusal) → t ≡ told r → answer ≡ answerOf (told r) → after ≡ out → OutputForC t filled out answer after
+  refused-for-c r q e p = record { says = rw q e; writes = rw e (p ∙ refused-left one r (rw (← q) h) filled out) }
+
+module _ (t : Told) (h : Held one t) (answer : Answer) (after out : List ℕ) where
+  written-for-c : (w : Written) → answer ≡ answerOf (writtenMeans w) → writtenMeans w ≡ t → (l : List ℕ) → after ≡ outAfter w l out
+      → OutputForC t (over l out) out answer after
+  written-for-c (Wrote bytes) e q l p = done-for-c t h answer after (over l out) out (bytes ∷ []) (sym q) e p
+  written-for-c (Refused r) e q l p = refused-for-c t h answer after (over l out) out r (sym q) e p
+
+  drawn-for-c : (w : Taken) → answer ≡ answerOf (takenMeans w) → takenMeans w ≡ t → (d : Drawing) → after ≡ drawnAfter w d out
+      → OutputForC t (drawnOver d out) out answer after
+  drawn-for-c (Bytes used) e q d p = done-for-c t h answer after (drawnOver d out) out (used ∷ []) (sym q) e p
+  drawn-for-c (NotTaken r) e q d p = refused-for-c t h answer after (drawnOver d out) out r (sym q) e p
+
+pub write-for-c : (k : Kind) (a b : ℕ) (plain out : List ℕ) (w : Written) (answer : Answer) (after : List ℕ)
+    → answer ≡ answerOf (writtenMeans w) → Writes k a b plain out w after → WriteForC k a b plain out answer after
+write-for-c k a b plain out w answer after e p = written-for-c _ (write-held k a b plain (length out)) answer after out w e (p .says) _ (p .writes)
+
+pub stand-in-for-c : (c bit : ℕ) (system key lent out : List ℕ) (w : Written) (answer : Answer) (after : List ℕ)
+    → answer ≡ answerOf (writtenMeans w) → StandsIn c bit system key lent out w after → StandInForC c bit system key lent out answer after
+stand-in-for-c c bit system key lent out w answer after e p =
+    written-for-c _ (stand-in-held c bit system key lent (length out)) answer after out w e (p .says) _ (p .writes)
+
+pub draw-for-c : (numbers : Told) (need : ℕ) (drawing : Drawing) (random out : List ℕ) (w : Taken) (answer : Answer) (after : List ℕ) → UpTo DRAW numbers
+    → answer ≡ answerOf (takenMeans w) → Draws numbers need drawing random out w after → DrawForC numbers need drawing random out answer after
+draw-for-c numbers need drawing random out w answer after h e p =
+    drawn-for-c _ (draw-held numbers h need (length out) (usedBy drawing) (length random)) answer after out w e (p .says) drawing (p .writes)
+
+-- ---- the card's steps
 
 module _ (step : Step) (answer : Answer) (e : answer ≡ answerOf (writtenMeans (step .told))) (after : List ℕ) where
   pub begin-for-c : (s : Session) (N : ℕ) (k : Keys) (choices out : List ℕ) → BeginStep s N k choices out step after
       → BeginForC s N k choices out answer (step .next) after
   begin-for-c s N k choices out p =
-      let h : Held (writtenMeans (step .told)) = rw (p .says) (begin-held s N k choices (length out)) in
+      let h : Held one (writtenMeans (step .told)) = rw (p .says) (begin-held s N k choices (length out)) in
       record {
         says = e ∙ ap answerOf (p .says);
         moves = rw e (p .moves ∙ left-by (step .told) h _ s);
@@ -27,7 +88,7 @@ module _ (step : Step) (answer : Answer) (e : answer ≡ answerOf (writtenMeans 
   module _ (s : Session) (k : Keys) (message choices out : List ℕ) where
     pub answer-for-c : AnswerStep s k message choices out step after → AnswerForC s k message choices out answer (step .next) after
     answer-for-c p =
-        let h : Held (writtenMeans (step .told)) = rw (p .says) (answer-held s k message choices (length out)) in
+        let h : Held one (writtenMeans (step .told)) = rw (p .says) (answer-held s k message choices (length out)) in
         record {
           says = e ∙ ap answerOf (p .says);
           moves = rw e (p .moves ∙ left-by (step .told) h _ s);
@@ -36,7 +97,7 @@ module _ (step : Step) (answer : Answer) (e : answer ≡ answerOf (writtenMeans 
 
     pub open-for-c : (left : List ℕ) → OpenStep s k message choices out step left after → OpenForC s k message choices out answer (step .next) left after
     open-for-c left p =
-        let h : Held (writtenMeans (step .told)) = rw (p .says) (open-held s k message choices (length out)) in
+        let h : Held one (writtenMeans (step .told)) = rw (p .says) (open-held s k message choices (length out)) in
         record {
           says = e ∙ ap answerOf (p .says);
           moves = rw e (p .moves ∙ left-by (step .told) h _ s);

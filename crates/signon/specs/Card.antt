@@ -1,15 +1,16 @@
--- What the card's C functions answer, keep and write: what the steps tell, with the record lent. Give up is `GiveUpStep` of crate card.
+-- What the card's C functions answer, keep and write: what the steps tell, with the record lent.
 use mathlib.Core.Path.{_≡_}
 use mathlib.Core.List.{List}
 use Prim.Native.Nat.{ℕ}
 use lib.ListN.{length}
+use Rattle.refusals.specs.Told.{fine}
 use Rattle.algebra.specs.Lists.{over}
 use Rattle.frames.specs.declared.kind.Kind.the-variants.{Commitments, Challenges, Answers, Openings}
 use Rattle.frames.specs.Reading.{restOf}
 use Rattle.writers.specs.Writing.{frame}
 use Rattle.card_checks.specs.declared.session.Session.{Session}
 use Rattle.card_checks.specs.Keys.{Keys, placesOf}
-use Rattle.card.specs.Steps.{beginTold, begun, commitmentsOf, answerTold, answered, answersOf, openTold, closed, openingsOf, zeroed}
+use Rattle.card.specs.Steps.{beginTold, begun, commitmentsOf, answerTold, answered, answersOf, openTold, closed, openingsOf, zeroed, GiveUpStep}
 use Rattle.signon.specs.declared.Answer.{Answer}
 use Rattle.signon.specs.Answers.{answerOf, ifDone}
 
@@ -28,3 +29,7 @@ pub record OpenForC (s : Session) (k : Keys) (message choices out : List ℕ) (a
   pub moves : next ≡ ifDone answer (closed s) s
   pub clears : left ≡ ifDone answer (zeroed choices) choices
   pub writes : after ≡ ifDone answer (over (frame Openings (placesOf k) (s .rounds) (openingsOf (s .rounds) k message choices)) out) out
+
+pub record GiveUpForC (s : Session) (choices : List ℕ) (answer : Answer) (next : Session) (left : List ℕ) : Type 0 where
+  pub says : answer ≡ answerOf fine
+  pub leaves : GiveUpStep s choices next left

@@ -1,3 +1,4 @@
--- What the C functions answer, and what the card's keep and write.
+-- What the C functions answer, keep and write.
 pub mod Answers
 pub mod Card
+pub mod Calls

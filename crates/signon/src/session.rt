@@ -3,12 +3,11 @@
 use crate::Answer;
 use crate::steps::answer_for_c;
 use crate::steps::begin_for_c;
+use crate::steps::give_up_for_c;
 use crate::steps::open_for_c;
-use card::give_up::give_up_step;
 use card_checks::session::Session;
-ghost use Rattle.card.specs.Steps.{GiveUpStep};
 ghost use Rattle.card_checks.specs.Keys.{keys};
-ghost use Rattle.signon.specs.Card.{BeginForC, AnswerForC, OpenForC};
+ghost use Rattle.signon.specs.Card.{BeginForC, AnswerForC, OpenForC, GiveUpForC};
 
 // From idle or closed to committed: all commitments are written.
 #[no_mangle]
@@ -29,50 +28,51 @@ pub extern "C" fn signon_begin(
     step.told
 }
 
-// From committed to answered: all first answers are written. The message holds the challenges.
+// From committed to answered: all first answers are written.
 #[no_mangle]
 pub extern "C" fn signon_answer_challenges(
     session: &mut Session,
     system: &[u8],
     public: &[u8],
     secret: &[u8],
-    message: &[u8],
+    challenges: &[u8],
     choices: &[u8],
     out: &mut [u8],
 ) -> Answer
-    ensures { λ r. ⌜ AnswerForC (now (session .entry)) (keys (now (system .entry)) (now (public .entry)) (now (secret .entry))) (now (message .entry)) (now (choices .entry)) (now (out .entry)) r (now (session .exit)) (now (out .exit)) ⌝ }
+    ensures { λ r. ⌜ AnswerForC (now (session .entry)) (keys (now (system .entry)) (now (public .entry)) (now (secret .entry))) (now (challenges .entry)) (now (choices .entry)) (now (out .entry)) r (now (session .exit)) (now (out .exit)) ⌝ }
 {
     let old = *session;
-    let step = answer_for_c(old, system, public, secret, message, choices, out);
+    let step = answer_for_c(old, system, public, secret, challenges, choices, out);
     *session = step.next;
     step.told
 }
 
-// From answered to closed: all openings are written, and the choices zeroed. The message holds the bits.
+// From answered to closed: all openings are written, and the choices zeroed.
 #[no_mangle]
 pub extern "C" fn signon_open(
     session: &mut Session,
     system: &[u8],
     public: &[u8],
     secret: &[u8],
-    message: &[u8],
+    bits: &[u8],
     choices: &mut [u8],
     out: &mut [u8],
 ) -> Answer
-    ensures { λ r. ⌜ OpenForC (now (session .entry)) (keys (now (system .entry)) (now (public .entry)) (now (secret .entry))) (now (message .entry)) (now (choices .entry)) (now (out .entry)) r (now (session .exit)) (now (choices .exit)) (now (out .exit)) ⌝ }
+    ensures { λ r. ⌜ OpenForC (now (session .entry)) (keys (now (system .entry)) (now (public .entry)) (now (secret .entry))) (now (bits .entry)) (now (choices .entry)) (now (out .entry)) r (now (session .exit)) (now (choices .exit)) (now (out .exit)) ⌝ }
 {
     let old = *session;
-    let step = open_for_c(old, system, public, secret, message, choices, out);
+    let step = open_for_c(old, system, public, secret, bits, choices, out);
     *session = step.next;
     step.told
 }
 
 // Record and choices are zeroed. Never refused.
 #[no_mangle]
-pub extern "C" fn signon_give_up(session: &mut Session, choices: &mut [u8])
-    ensures { λ _. ⌜ GiveUpStep (now (session .entry)) (now (choices .entry)) (now (session .exit)) (now (choices .exit)) ⌝ }
+pub extern "C" fn signon_give_up(session: &mut Session, choices: &mut [u8]) -> Answer
+    ensures { λ r. ⌜ GiveUpForC (now (session .entry)) (now (choices .entry)) r (now (session .exit)) (now (choices .exit)) ⌝ }
 {
     let old = *session;
-    let next = give_up_step(old, choices);
-    *session = next;
+    let step = give_up_for_c(old, choices);
+    *session = step.next;
+    step.told
 }

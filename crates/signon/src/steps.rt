@@ -1,12 +1,14 @@
 // The card's steps with their answers as C takes them. The record still goes by value.
 use crate::Answer;
-use crate::answers::answer_of;
+use crate::answers::of_writing;
+use crate::answers::success;
 use card::answer::answer_step;
 use card::begin::begin_step;
+use card::give_up::give_up_step;
 use card::open::open_step;
 use card_checks::session::Session;
 ghost use Rattle.card_checks.specs.Keys.{keys};
-ghost use Rattle.signon.specs.Card.{BeginForC, AnswerForC, OpenForC};
+ghost use Rattle.signon.specs.Card.{BeginForC, AnswerForC, OpenForC, GiveUpForC};
 
 // What a step answers in C, and the next record.
 pub struct Stepped {
@@ -29,7 +31,7 @@ pub fn begin_for_c(
     let told = step.told;
     let next = step.next;
     Stepped {
-        told: answer_of(told),
+        told: of_writing(told),
         next: next,
     }
 }
@@ -39,17 +41,17 @@ pub fn answer_for_c(
     system: &[u8],
     public: &[u8],
     secret: &[u8],
-    message: &[u8],
+    challenges: &[u8],
     choices: &[u8],
     out: &mut [u8],
 ) -> Stepped
-    ensures { λ r. ⌜ AnswerForC session (keys (now (system .entry)) (now (public .entry)) (now (secret .entry))) (now (message .entry)) (now (choices .entry)) (now (out .entry)) (r .told) (r .next) (now (out .exit)) ⌝ }
+    ensures { λ r. ⌜ AnswerForC session (keys (now (system .entry)) (now (public .entry)) (now (secret .entry))) (now (challenges .entry)) (now (choices .entry)) (now (out .entry)) (r .told) (r .next) (now (out .exit)) ⌝ }
 {
-    let step = answer_step(session, system, public, secret, message, choices, out);
+    let step = answer_step(session, system, public, secret, challenges, choices, out);
     let told = step.told;
     let next = step.next;
     Stepped {
-        told: answer_of(told),
+        told: of_writing(told),
         next: next,
     }
 }
@@ -59,17 +61,27 @@ pub fn open_for_c(
     system: &[u8],
     public: &[u8],
     secret: &[u8],
-    message: &[u8],
+    bits: &[u8],
     choices: &mut [u8],
     out: &mut [u8],
 ) -> Stepped
-    ensures { λ r. ⌜ OpenForC session (keys (now (system .entry)) (now (public .entry)) (now (secret .entry))) (now (message .entry)) (now (choices .entry)) (now (out .entry)) (r .told) (r .next) (now (choices .exit)) (now (out .exit)) ⌝ }
+    ensures { λ r. ⌜ OpenForC session (keys (now (system .entry)) (now (public .entry)) (now (secret .entry))) (now (bits .entry)) (now (choices .entry)) (now (out .entry)) (r .told) (r .next) (now (choices .exit)) (now (out .exit)) ⌝ }
 {
-    let step = open_step(session, system, public, secret, message, choices, out);
+    let step = open_step(session, system, public, secret, bits, choices, out);
     let told = step.told;
     let next = step.next;
     Stepped {
-        told: answer_of(told),
+        told: of_writing(told),
+        next: next,
+    }
+}
+
+pub fn give_up_for_c(session: Session, choices: &mut [u8]) -> Stepped
+    ensures { λ r. ⌜ GiveUpForC session (now (choices .entry)) (r .told) (r .next) (now (choices .exit)) ⌝ }
+{
+    let next = give_up_step(session, choices);
+    Stepped {
+        told: success(0),
         next: next,
     }
 }

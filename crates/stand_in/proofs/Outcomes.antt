@@ -6,20 +6,23 @@ use mathlib.Core.List.{List, [], _∷_}
 use Prim.Native.Nat.{ℕ, _≤_}
 use native.Mathlib.Omega.{arith}
 use borrow.Author.Tests.{le-leb}
-use lib.Dec.{eqb, leb}
+use lib.Dec.{eqb, ltb, leb}
 use lib.ListN.{length}
 use Rattle.refusals.specs.declared.Refusal.{Refusal}
-use Rattle.refusals.specs.Number.{ROOM}
-use Rattle.refusals.specs.Buffer.{OUTPUT}
+use Rattle.refusals.specs.Number.{SHAPE, PERM, ROOM}
+use Rattle.refusals.specs.Buffer.{NONE, OUTPUT}
 use Rattle.refusals.specs.Told.{Told, done, fine, first, demand}
-use Rattle.refusals.proofs.Chain.{Passed, first-done}
+use Rattle.refusals.proofs.Chain.{Passed, UpTo, first-done, test-most, most-more}
 use Rattle.algebra.specs.Residues.{modulus}
 use Rattle.frames.specs.declared.kind.Kind.the-variants.{System, Public}
 use Rattle.writers.specs.declared.Written.{Written}
 use Rattle.writers.specs.declared.Written.the-variants.{Wrote, Refused}
-use Rattle.frames.specs.Reading.{firstOf, secondOf, restOf}
+use Rattle.frames.specs.Kinds.{alone, ofPlaces}
+use Rattle.frames.specs.Reading.{firstOf, secondOf, restOf, reading}
+use Rattle.frames.specs.Choosing.{choicesCheck}
+use Rattle.frames.proofs.Outcomes.{frame-most, choices-most}
 use Rattle.writers.specs.Writing.{outAfter}
-use Rattle.writers.proofs.Outcomes.{written-fixes}
+use Rattle.writers.proofs.Outcomes.{written-fixes, room-most, room-one}
 use Rattle.round.specs.Round.{systemOf, passes}
 use Rattle.round.proofs.Laws.{stand-in-passes}
 use Rattle.stand_in.specs.Standing.{lentCheck, roundSize, standing, standInOf, roundBytes, StandsIn}
@@ -70,3 +73,27 @@ module _ (c bit : ℕ) (system key lent out : List ℕ) where
     written-passes =
         let small : c ≤ modulus = omega (arith, fits .challenge) in
         stand-in-passes (systemOf (restOf System system) (firstOf system) (secondOf System system)) (restOf Public key) c small (eqb bit 1) _ (fits .well)
+
+-- ---- what the call tells: the bytes written, or a refusal by the numbers up to ROOM
+
+module _ (c bit : ℕ) (system key lent : List ℕ) where
+  lent-most : UpTo ROOM (lentCheck c bit system key lent)
+  unfolding lentCheck
+  lent-most =
+      let n = firstOf system in
+      let choices = choicesCheck n 1 lent in
+      let r4 : Told = first (reading Public (ofPlaces n) key) choices in
+      let r3 : Told = first (reading System alone system) r4 in
+      let r2 : Told = first (demand (ltb bit 2) SHAPE NONE 0) r3 in
+      test-most ROOM (ltb c modulus) SHAPE NONE 0 r2 (omega arith) (omega arith)
+      (test-most ROOM (ltb bit 2) SHAPE NONE 0 r3 (omega arith) (omega arith)
+      (frame-most ROOM System alone system r4 (omega arith)
+      (frame-most ROOM Public (ofPlaces n) key choices (omega arith) (most-more PERM ROOM choices (omega arith) (choices-most n 1 lent)))))
+
+  pub standing-most : (room : ℕ) → UpTo ROOM (standing c bit system key lent room)
+  unfolding standing
+  standing-most room = room-most (lentCheck c bit system key lent) (roundSize (firstOf system)) room lent-most
+
+  pub standing-one : (room : ℕ) (values : List ℕ) → standing c bit system key lent room ≡ done values → values ≡ roundSize (firstOf system) ∷ []
+  unfolding standing
+  standing-one room values e = room-one (lentCheck c bit system key lent) (roundSize (firstOf system)) room values e

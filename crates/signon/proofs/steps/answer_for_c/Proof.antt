@@ -7,15 +7,15 @@ use Rattle.signon.proofs.steps.answer_for_c.Tie as tie
 answer-step-requires : tie.Need-answer-step-requires
 answer-step-requires c κs = search needs
 
-answer-of-requires : tie.Need-answer-of-requires
-answer-of-requires c κs = search needs
+of-writing-requires : tie.Need-of-writing-requires
+of-writing-requires c κs = search needs
 
 same-length : tie.Need-same-length
 same-length c = search needs
 
 returns : tie.Need-returns
-returns c = answer-for-c _ _ (c .answer-of .ensures) _ _ _ _ _ _ (c .before .before .before .before .answer-step .ensures)
+returns c = answer-for-c _ _ (c .of-writing .ensures) _ _ _ _ _ _ (c .before .before .before .before .answer-step .ensures)
 
 pub answer-for-c-spec : {M : Type 1} → statement M
 answer-for-c-spec =
-    tie.close (tie.spec answer-step-requires answer-of-requires same-length returns)
+    tie.close (tie.spec answer-step-requires of-writing-requires same-length returns)

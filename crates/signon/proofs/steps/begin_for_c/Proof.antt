@@ -7,14 +7,14 @@ use Rattle.signon.proofs.steps.begin_for_c.Tie as tie
 begin-step-requires : tie.Need-begin-step-requires
 begin-step-requires c κs = search needs
 
-answer-of-requires : tie.Need-answer-of-requires
-answer-of-requires c κs = search needs
+of-writing-requires : tie.Need-of-writing-requires
+of-writing-requires c κs = search needs
 
 same-length : tie.Need-same-length
 same-length c = search needs
 
 returns : tie.Need-returns
-returns c = begin-for-c _ _ (c .answer-of .ensures) _ _ _ _ _ _ (c .before .before .before .before .begin-step .ensures)
+returns c = begin-for-c _ _ (c .of-writing .ensures) _ _ _ _ _ _ (c .before .before .before .before .begin-step .ensures)
 
 pub begin-for-c-spec : {M : Type 1} → statement M
-begin-for-c-spec = tie.close (tie.spec begin-step-requires answer-of-requires same-length returns)
+begin-for-c-spec = tie.close (tie.spec begin-step-requires of-writing-requires same-length returns)

@@ -1,0 +1,135 @@
+#include "frames.h"
+
+static int buffer_of(int kind)
+{
+    return kind < COMMITMENTS ? kind : kind + 1;
+}
+
+static bool has_two_numbers(int kind)
+{
+    return kind == SYSTEM || kind == FIRST_ANSWERS || kind == OPENINGS;
+}
+
+size_t start_of(int kind)
+{
+    return HEADER + (has_two_numbers(kind) ? 2 : 1);
+}
+
+static size_t rest_size(int kind, size_t first, size_t second)
+{
+    switch (kind) {
+    case SYSTEM: return second * (first - second);
+    case COMMITMENTS: return 2 * DIGEST * first;
+    case BITS: return (first + 7) / 8;
+    case FIRST_ANSWERS:
+    case OPENINGS: return first * second;
+    default: return first;
+    }
+}
+
+static bool fits(size_t number, size_t asked, size_t least, size_t most)
+{
+    return asked == ANY ? least <= number && number <= most : number == asked;
+}
+
+static bool numbers_fit(int kind, size_t first, size_t second, size_t n, size_t rounds)
+{
+    bool first_is_n = kind != COMMITMENTS && kind != CHALLENGES && kind != BITS;
+    if (!(first_is_n ? fits(first, n, SIGNON_LEAST_N, SIGNON_MOST_N) : fits(first, rounds, 1, SIGNON_MOST_ROUNDS)))
+        return false;
+    if (kind == SYSTEM)
+        return 1 <= second && second < first;
+    return !has_two_numbers(kind) || fits(second, rounds, 1, SIGNON_MOST_ROUNDS);
+}
+
+static bool unused_bit_set(struct bytes frame, size_t rounds)
+{
+    size_t unused = (8 - rounds % 8) % 8;
+    return (frame.at[frame.size - 1] & ((1u << unused) - 1)) != 0;
+}
+
+static struct signon_answer check_header(int kind, struct bytes frame)
+{
+    int buffer = buffer_of(kind);
+    if (frame.size < HEADER)
+        return refuse(SIGNON_SHORT, buffer, 0);
+    size_t whole = frame.at[0] * 256u + frame.at[1] + 2;
+    if (frame.size != whole)
+        return refuse(frame.size < whole ? SIGNON_SHORT : SIGNON_LONG, buffer, 0);
+    if (frame.at[2] != 1)
+        return refuse(SIGNON_VERSION, buffer, 2);
+    if (frame.at[3] != kind)
+        return refuse(SIGNON_KIND, buffer, 3);
+    return done(0);
+}
+
+struct signon_answer check_residues(int buffer, const uint8_t *at, size_t from, size_t to)
+{
+    for (size_t i = from; i < to; i++)
+        if (at[i] >= SIGNON_MODULUS)
+            return refuse(SIGNON_VALUE, buffer, i);
+    return done(0);
+}
+
+static bool is_permutation(const uint8_t *s, size_t n)
+{
+    bool seen[SIGNON_MOST_N] = {false};
+    for (size_t i = 0; i < n; i++) {
+        if (s[i] >= n || seen[s[i]])
+            return false;
+        seen[s[i]] = true;
+    }
+    return true;
+}
+
+struct signon_answer check_permutations(int buffer, const uint8_t *at, size_t from, size_t to, size_t n)
+{
+    for (size_t i = from; i < to; i += n)
+        if (!is_permutation(at + i, n))
+            return refuse(SIGNON_PERM, buffer, i);
+    return done(0);
+}
+
+static struct signon_answer check_rest(int kind, struct bytes frame, size_t first)
+{
+    switch (kind) {
+    case COMMITMENTS:
+    case BITS: return done(0);
+    case SECRET_KEY:
+    case OPENINGS: return check_permutations(buffer_of(kind), frame.at, start_of(kind), frame.size, first);
+    default: return check_residues(buffer_of(kind), frame.at, start_of(kind), frame.size);
+    }
+}
+
+struct signon_answer read_frame(int kind, struct bytes frame, size_t n, size_t rounds)
+{
+    struct signon_answer a = check_header(kind, frame), bad_shape = refuse(SIGNON_SHAPE, buffer_of(kind), 4);
+    if (refused(a))
+        return a;
+    if (frame.size < start_of(kind))
+        return bad_shape;
+    size_t first = frame.at[4], second = has_two_numbers(kind) ? frame.at[5] : 0;
+    if (!numbers_fit(kind, first, second, n, rounds) || frame.size != start_of(kind) + rest_size(kind, first, second))
+        return bad_shape;
+    if (kind == BITS && unused_bit_set(frame, first))
+        return bad_shape;
+    a = check_rest(kind, frame, first);
+    return refused(a) ? a : done(first + 256 * second);
+}
+
+struct signon_answer plain_read(int kind, struct bytes frame)
+{
+    return read_frame(kind, frame, ANY, ANY);
+}
+
+void put_heading(int kind, size_t first, size_t second, size_t rest, uint8_t *out)
+{
+    size_t count = start_of(kind) - 2 + rest;
+    out[0] = (uint8_t)(count >> 8);
+    out[1] = (uint8_t)count;
+    out[2] = 1;
+    out[3] = (uint8_t)kind;
+    out[4] = (uint8_t)first;
+    if (has_two_numbers(kind))
+        out[5] = (uint8_t)second;
+}

@@ -1,0 +1,26 @@
+/* The eight kinds of frames: their numbers, sizes and checks. */
+#ifndef PLAIN_FRAMES_H
+#define PLAIN_FRAMES_H
+
+#include "plain.h"
+
+enum { SYSTEM = 1, PUBLIC_KEY, SECRET_KEY, COMMITMENTS, CHALLENGES, FIRST_ANSWERS, BITS, OPENINGS };
+enum { ANY = 0, HEADER = 4, DIGEST = 32 };
+
+static inline struct signon_answer done(size_t value) { return (struct signon_answer){SIGNON_DONE, SIGNON_NO_BUFFER, value}; }
+static inline struct signon_answer refuse(int number, int buffer, size_t place) { return (struct signon_answer){(uint8_t)number, (uint8_t)buffer, place}; }
+static inline bool refused(struct signon_answer answer) { return answer.number != SIGNON_DONE; }
+
+/* Where the rest of a frame starts, behind its numbers. */
+size_t start_of(int kind);
+
+/* Reads a frame whose n and rounds have to be these, or anything within the limits for ANY. */
+struct signon_answer read_frame(int kind, struct bytes frame, size_t n, size_t rounds);
+
+/* Writes what stands before a rest of that size. */
+void put_heading(int kind, size_t first, size_t second, size_t rest, uint8_t *out);
+
+struct signon_answer check_residues(int buffer, const uint8_t *at, size_t from, size_t to);
+struct signon_answer check_permutations(int buffer, const uint8_t *at, size_t from, size_t to, size_t n);
+
+#endif

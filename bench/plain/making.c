@@ -1,0 +1,94 @@
+#include "making.h"
+
+#include "round.h"
+
+/* splitmix64 */
+static size_t below(struct random *random, size_t limit)
+{
+    uint64_t z = random->state += 0x9e3779b97f4a7c15;
+    z = (z ^ z >> 30) * 0xbf58476d1ce4e5b9;
+    z = (z ^ z >> 27) * 0x94d049bb133111eb;
+    return (z ^ z >> 31) % limit;
+}
+
+size_t make_residues(struct random *random, size_t count, uint8_t *out)
+{
+    for (size_t i = 0; i < count; i++)
+        out[i] = (uint8_t)below(random, SIGNON_MODULUS);
+    return count;
+}
+
+static size_t make_permutation(struct random *random, size_t n, uint8_t *out)
+{
+    for (size_t i = 0; i < n; i++) {
+        size_t j = below(random, i + 1);
+        out[i] = out[j];
+        out[j] = (uint8_t)i;
+    }
+    return n;
+}
+
+static size_t make_permutations(struct random *random, size_t n, size_t count, uint8_t *out)
+{
+    for (size_t k = 0; k < count; k++)
+        make_permutation(random, n, out + k * n);
+    return n * count;
+}
+
+static size_t make_bits(struct random *random, size_t rounds, uint8_t *out)
+{
+    size_t packed = (rounds + 7) / 8;
+    for (size_t i = 0; i < packed; i++)
+        out[i] = (uint8_t)below(random, 256);
+    out[packed - 1] &= (uint8_t)(0xff << (8 * packed - rounds));
+    return packed;
+}
+
+static size_t make_rest(struct random *random, int kind, struct sizes sizes, uint8_t *out)
+{
+    size_t n = sizes.n, m = sizes.m, rounds = sizes.rounds;
+    switch (kind) {
+    case SYSTEM: return make_residues(random, m * (n - m), out);
+    case PUBLIC_KEY: return make_residues(random, n, out);
+    case SECRET_KEY: return make_permutation(random, n, out);
+    case COMMITMENTS: return make_residues(random, 2 * DIGEST * rounds, out);
+    case CHALLENGES: return make_residues(random, rounds, out);
+    case FIRST_ANSWERS: return make_residues(random, n * rounds, out);
+    case BITS: return make_bits(random, rounds, out);
+    default: return make_permutations(random, n, rounds, out);
+    }
+}
+
+size_t make_frame(struct random *random, int kind, struct sizes sizes, uint8_t *out)
+{
+    bool of_rounds = kind == COMMITMENTS || kind == CHALLENGES || kind == BITS;
+    size_t rest = make_rest(random, kind, sizes, out + start_of(kind));
+    put_heading(kind, of_rounds ? sizes.rounds : sizes.n, kind == SYSTEM ? sizes.m : sizes.rounds, rest, out);
+    return start_of(kind) + rest;
+}
+
+size_t make_choices(struct random *random, struct sizes sizes, uint8_t *out)
+{
+    for (size_t k = 0; k < sizes.rounds; k++) {
+        out += make_residues(random, sizes.n, out);
+        out += make_permutation(random, sizes.n, out);
+    }
+    return SIGNON_CHOICES_SIZE(sizes.n, sizes.rounds);
+}
+
+/* X is completed so that A X is zero, and V[pi[j]] = X[j]. */
+void make_keys(struct random *random, struct sizes sizes, uint8_t *system, uint8_t *public_key, uint8_t *secret_key)
+{
+    make_frame(random, SYSTEM, sizes, system);
+    make_frame(random, PUBLIC_KEY, sizes, public_key);
+    make_frame(random, SECRET_KEY, sizes, secret_key);
+    struct public_data d = {sizes.n, sizes.m, system + start_of(SYSTEM), public_key + start_of(PUBLIC_KEY)};
+    const uint8_t *pi = secret_key + start_of(SECRET_KEY);
+    uint8_t x[SIGNON_MOST_N] = {0}, rows[SIGNON_MOST_N];
+    make_residues(random, d.n - d.m, x);
+    product(&d, x, rows);
+    for (size_t i = 0; i < d.m; i++)
+        x[d.n - d.m + i] = (uint8_t)((SIGNON_MODULUS - rows[i]) % SIGNON_MODULUS);
+    for (size_t j = 0; j < d.n; j++)
+        public_key[start_of(PUBLIC_KEY) + pi[j]] = x[j];
+}

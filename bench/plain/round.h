@@ -1,0 +1,36 @@
+/* One round, on well-formed parts. A is [A' | I], the entries those of A' row by row. */
+#ifndef PLAIN_ROUND_H
+#define PLAIN_ROUND_H
+
+#include "frames.h"
+
+struct public_data {
+    size_t n, m;
+    const uint8_t *entries, *vector;
+};
+
+/* What a card starts a round from. */
+struct choice {
+    const uint8_t *r, *sigma;
+};
+
+/* What a round shows: W and the opened permutation. */
+struct shown {
+    const uint8_t *w, *opened;
+};
+
+struct public_data public_data_of(struct bytes system, struct bytes public_key);
+bool bit_of(const uint8_t *packed, size_t k);
+
+/* A X. */
+void product(const struct public_data *d, const uint8_t *x, uint8_t *out);
+/* V_theta; the product of two permutations where v is one. */
+void permute(const uint8_t *v, const uint8_t *theta, size_t n, uint8_t *out);
+
+void commitment_zero(const struct public_data *d, struct choice choice, uint8_t digest[DIGEST]);
+void commitment_one(const uint8_t *pi, size_t n, struct choice choice, uint8_t digest[DIGEST]);
+void first_answer(const struct public_data *d, const uint8_t *pi, uint8_t c, struct choice choice, uint8_t *out);
+void opening(const uint8_t *pi, size_t n, bool bit, struct choice choice, uint8_t *out);
+bool passes(const struct public_data *d, uint8_t c, bool bit, const uint8_t commitment[DIGEST], struct shown shown);
+
+#endif

@@ -1,0 +1,10 @@
+/* SHA-256 of a message in pieces of `size` bytes, in one where `size` is 0: plain portable C, to measure the proved code beside. */
+#ifndef PLAIN_SHA256_H
+#define PLAIN_SHA256_H
+
+#include <stddef.h>
+#include <stdint.h>
+
+void plain_in_pieces(const uint8_t *message, size_t length, size_t size, uint8_t digest[32]);
+
+#endif

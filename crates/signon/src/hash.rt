@@ -1,0 +1,36 @@
+// SHA-256.
+use crate::Answer;
+use crate::answers::refusal;
+use crate::answers::success;
+use algebra::output::copy_into;
+use refusals::Checked;
+use refusals::Refusal;
+use refusals::buffer::OUTPUT;
+use refusals::number::ROOM;
+use sha256::hash;
+ghost use Rattle.signon.specs.Calls.{HashForC};
+
+// The bytes of a digest.
+const DIGEST: usize = 32;
+
+// The digest of a message of at most 65,535 bytes.
+#[no_mangle]
+pub extern "C" fn signon_hash(message: &[u8], out: &mut [u8]) -> Answer
+    ensures { λ r. ⌜ HashForC (now (message .entry)) (now (out .entry)) r (now (out .exit)) ⌝ }
+{
+    let hashed = hash(message);
+    let answer = hashed.answer;
+    if let Checked::Refused(x) = answer {
+        return refusal(x);
+    }
+    if out.len() < DIGEST {
+        return refusal(Refusal {
+            number: ROOM,
+            buffer: OUTPUT,
+            place: DIGEST,
+        });
+    }
+    let digest = hashed.digest;
+    copy_into(&digest, out);
+    success(DIGEST)
+}
