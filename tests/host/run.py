@@ -3,11 +3,12 @@
 
     python3 tests/host/run.py [NAME ..]
 
-NAME is header, example, sign_ons, verdict or rust; all of them where none is named. Needs rt, gcc, g++, nm and cargo, and the programs in
+NAME is header, example, sign_ons, verdict, desk or rust; all of them where none is named. Needs rt, gcc, g++, nm and cargo, and the programs in
 target/bin. The archive is built first (bindings/archive). Exit status 1 where a test fails.
 """
 import sys
 
+import desk
 import example
 import header
 import rust
@@ -20,6 +21,7 @@ TESTS = {
     "example": example.check,
     "sign_ons": sign_ons.check,
     "verdict": verdict_offsets.check,
+    "desk": desk.check,
     "rust": rust.check,
 }
 

@@ -2,9 +2,8 @@
 // length and its bytes. What a damaged case lacks is 0, or empty.
 ghost use Prim.Native.Nat.{_≤_};
 ghost use lib.ListN.{length};
-ghost use Rattle.io.specs.Counts.{Counts};
-use algebra::output::copy_into;
 use frames::wide;
+use hosting::bytes::byte_of;
 
 // The bytes as one number, the highest first.
 pub fn big_endian(bytes: &[u8]) -> usize {
@@ -15,13 +14,6 @@ pub fn big_endian(bytes: &[u8]) -> usize {
         i += 1;
     }
     value
-}
-
-pub fn byte_of(bytes: &[u8], k: usize) -> u8 {
-    if bytes.len() <= k {
-        return 0;
-    }
-    bytes[k]
 }
 
 pub fn call_of(case: &[u8]) -> u8 {
@@ -84,15 +76,4 @@ pub fn buffer_of(case: &[u8], k: usize) -> &[u8] {
     }
     let from = at + 4;
     &case[from..end]
-}
-
-// Copies a buffer that is lent for writing into the room, and answers its length; a case has none that is longer than the room.
-pub fn lay(buffer: &[u8], room: &mut [u8]) -> usize
-    ensures { λ r. ⌜ Counts r (now (room .exit)) ⌝ }
-{
-    if room.len() < buffer.len() {
-        return 0;
-    }
-    copy_into(buffer, room);
-    buffer.len()
 }

@@ -7,7 +7,6 @@ ghost use Rattle.io.specs.Counts.{Counts};
 
 mod case;
 mod replay;
-mod session;
 mod sign_on;
 mod tell;
 

@@ -1,7 +1,6 @@
 // The calls by their numbers in a case, each with its line.
 use crate::case::buffer_of;
 use crate::case::call_of;
-use crate::case::lay;
 use crate::case::number_of;
 use crate::sign_on::replay_sign_on;
 use crate::tell::tell_bytes;
@@ -17,16 +16,9 @@ use draw::messages::draw_challenges;
 use draw::permutation::draw_permutation;
 use frames::opening::check_opening;
 use frames::opening::opening;
-use frames::read::Read;
-use frames::read::read_bits;
-use frames::read::read_challenges;
-use frames::read::read_commitments;
-use frames::read::read_first_answers;
-use frames::read::read_openings;
-use frames::read::read_public_key;
-use frames::read::read_secret_key;
-use frames::read::read_system;
 use frames::wide;
+use hosting::bytes::lay;
+use hosting::read::read_kind;
 use key_making::make_key;
 use libc::STDOUT_FILENO;
 use sha256::hash;
@@ -40,19 +32,6 @@ use writers::write_openings;
 use writers::write_public_key;
 use writers::write_secret_key;
 use writers::write_system;
-
-fn read(call: u8, frame: &[u8]) -> Read {
-    match call {
-        1 => read_system(frame),
-        2 => read_public_key(frame),
-        3 => read_secret_key(frame),
-        4 => read_commitments(frame),
-        5 => read_challenges(frame),
-        6 => read_first_answers(frame),
-        7 => read_bits(frame),
-        _ => read_openings(frame),
-    }
-}
 
 fn write(call: u8, a: usize, b: usize, plain: &[u8], out: &mut [u8]) -> Written {
     match call {
@@ -120,7 +99,7 @@ fn replay_key(case: &[u8], out: &mut [u8]) {
 
 fn replay_call(call: u8, case: &[u8], out: &mut [u8]) {
     match call {
-        1..=8 => tell_read(read(call, buffer_of(case, 0))),
+        1..=8 => tell_read(read_kind(call, buffer_of(case, 0))),
         9..=16 => replay_write(call, case, out),
         17 => replay_opening(buffer_of(case, 0), number_of(case, 0)),
         18 => replay_hash(buffer_of(case, 0)),

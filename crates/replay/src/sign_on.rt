@@ -1,9 +1,6 @@
 // The calls of the card and of the register.
 use crate::case::buffer_of;
-use crate::case::lay;
 use crate::case::number_of;
-use crate::session::session_of;
-use crate::session::tell_session;
 use crate::tell::tell_bytes;
 use crate::tell::tell_checked;
 use crate::tell::tell_done;
@@ -16,6 +13,9 @@ use card::give_up::give_up_step;
 use card::open::open_step;
 use card_checks::key::check_key;
 use card_checks::session::Session;
+use hosting::bytes::lay;
+use record_bytes::put_session;
+use record_bytes::session_of;
 use register::decide::verdict;
 
 fn replay_key_check(case: &[u8]) {
@@ -24,6 +24,12 @@ fn replay_key_check(case: &[u8]) {
 
 fn session_in(case: &[u8]) -> Session {
     session_of(buffer_of(case, 0))
+}
+
+fn tell_session(session: Session) {
+    let mut record = [0u8; 68];
+    put_session(session, &mut record);
+    tell_bytes(&record);
 }
 
 fn tell_step(step: Step) {

@@ -1,11 +1,10 @@
-// The session record in a case and in a line: 68 bytes.
-ghost use mathlib.Core.Path.{_≡_};
-ghost use lib.ListN.{length};
-use crate::case::byte_of;
-use crate::tell::tell_bytes;
+// The session record as 68 bytes, for programs that keep it as such.
 use algebra::output::copy_at;
 use algebra::output::copy_into;
 use card_checks::session::Session;
+use hosting::bytes::byte_of;
+ghost use mathlib.Core.Path.{_≡_};
+ghost use lib.ListN.{length};
 
 // Where the challenges start.
 const CHALLENGES_AT: usize = 4;
@@ -36,17 +35,11 @@ fn put_challenges(challenges: [u8; 64], out: &mut [u8])
     copy_at(&challenges, CHALLENGES_AT, out);
 }
 
-fn put_session(session: Session, out: &mut [u8])
+pub fn put_session(session: Session, out: &mut [u8])
     requires { ⌜ length (now out) ≡ 68 ⌝ }
 {
     let numbers = [session.stage, session.n, session.m, session.rounds];
     let challenges = session.challenges;
     copy_into(&numbers, out);
     put_challenges(challenges, out);
-}
-
-pub fn tell_session(session: Session) {
-    let mut record = [0u8; 68];
-    put_session(session, &mut record);
-    tell_bytes(&record);
 }

@@ -1,10 +1,10 @@
--- `replay::session::challenges_of` is safe and ends: `k` stays within the challenges, and those still to be read are the measure.
+-- `record_bytes::challenges_of` is safe and ends: `k` stays within the challenges, and those still to be read are the measure.
 use mathlib.Core.Path.{_≡_}
 use borrow.Author.Needs.{needs}
 use Prim.Native.Nat.{_≤_, _-_}
 use lib.ListN.{length}
-use Rattle.replay.proofs.session.challenges_of.Statement.{statement}
-use Rattle.replay.proofs.session.challenges_of.Tie as tie
+use Rattle.record_bytes.proofs.challenges_of.Statement.{statement}
+use Rattle.record_bytes.proofs.challenges_of.Tie as tie
 
 abbrev Inv-loop : tie.InvT-loop
 Inv-loop «record» challenges₀ k₀ challenges k = (k ≤ 64) × (length challenges ≡ 64)

@@ -1,8 +1,8 @@
--- `replay::case::lay` meets its contract: the room is known to hold the buffer before it is copied.
+-- `hosting::bytes::lay` meets its contract: the room is known to hold the buffer before it is copied.
 use borrow.Author.Needs.{needs}
 use Rattle.io.proofs.Counting.{counts}
-use Rattle.replay.proofs.case.lay.Statement.{statement}
-use Rattle.replay.proofs.case.lay.Tie as tie
+use Rattle.hosting.proofs.bytes.lay.Statement.{statement}
+use Rattle.hosting.proofs.bytes.lay.Tie as tie
 
 returns : tie.Need-returns
 returns c = search needs

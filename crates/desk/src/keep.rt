@@ -1,0 +1,21 @@
+// What came of a call: a refusal is told, an output is saved.
+use desk_files::save::save;
+use desk_files::slots::file;
+use hosting::bytes::front;
+use refusals::Refusal;
+use words::refusal::tell_refusal;
+use writers::Written;
+
+// Tells a refusal over the files of the command.
+pub fn refuse(x: Refusal, lent: &[u8]) {
+    let buffer = x.buffer;
+    tell_refusal(x, file(lent, buffer));
+}
+
+// Saves what was written, or tells the refusal.
+pub fn keep_written(told: Written, lent: &[u8], at: usize, out: &[u8]) {
+    match told {
+        Written::Refused(x) => refuse(x, lent),
+        Written::Wrote(count) => save(at, front(out, count)),
+    }
+}
