@@ -55,7 +55,7 @@ impl<'a> Session<'a> {
     /// Answers: takes the frame of the challenges, writes that of the first answers, [`first_answers_size`](crate::first_answers_size) bytes,
     /// and answers how many that is.
     ///
-    /// **Choices that answer two frames of challenges give the secret key away.** This session answers one; see to it that no copy of its choices
+    /// **Choices that answer two frames of challenges give the secret key away.** A session answers one; see to it that no copy of its choices
     /// answers another.
     ///
     /// Refused, in this order: STAGE; the challenges; ROOM.
