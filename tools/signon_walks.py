@@ -10,11 +10,11 @@ from pathlib import Path
 from thin import LENT, SHARED, Walk
 
 ROOT = Path(__file__).resolve().parents[1]
-RECORD = "card_checks::session::Session"
+RECORD = "card_rules::session::Session"
 ANSWER, TOLD = "signon::steps::Stepped", "signon::Answer"
 KEYS = [("system", SHARED), ("public", SHARED), ("secret", SHARED)]
 ALL_KEYS = "(keys {system} {public} {secret})"
-USE_KEYS = "use Rattle.card_checks.specs.Keys.{keys}"
+USE_KEYS = "use Rattle.card_rules.specs.Keys.{keys}"
 
 
 def stepping(name, step, signature, contract, fact):

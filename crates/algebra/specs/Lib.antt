@@ -1,7 +1,4 @@
--- Residues, vectors, permutations, the matrix [A' | I], and drawing from lent bytes. A modulus p is a parameter throughout.
+-- Lists, residues and vectors, permutations. A modulus p is a parameter throughout.
 pub mod Lists
 pub mod Residues
 pub mod Permutations
-pub mod Matrices
-pub mod Solving
-pub mod Drawings

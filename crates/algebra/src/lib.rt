@@ -1,7 +1,5 @@
-// Residues modulo 251, vectors, permutations, the matrix [A' | I], and drawing from lent bytes.
+// Residues modulo 251, vectors and permutations.
 // What is written goes over the front of the output, whose rest stays.
-pub mod draw;
-pub mod matrix;
 pub mod output;
 pub mod permutation;
 pub mod residue;

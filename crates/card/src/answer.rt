@@ -1,11 +1,11 @@
 // Answer: all first answers are written, and the challenges kept.
-use crate::Step;
 use algebra::output::copy_into;
 use card_checks::order::check_answer;
-use card_checks::session::ANSWERED;
-use card_checks::session::Session;
-use frames::kind::Kind;
+use card_rules::session::ANSWERED;
+use card_rules::session::Session;
+use card_steps::Step;
 use frames::wide;
+use kinds::Kind;
 use refusals::Checked;
 use rounds::card::answer_all;
 use writers::Written;
@@ -18,9 +18,9 @@ ghost use Rattle.algebra.specs.Residues.{modulus};
 ghost use Rattle.writers.specs.Writing.{frame};
 ghost use Rattle.rounds.specs.Layout.{CardFits};
 ghost use Rattle.rounds.specs.Rounds.{answerAt};
-ghost use Rattle.card_checks.specs.Keys.{keys};
-ghost use Rattle.card_checks.specs.Asking.{answersSize};
-ghost use Rattle.card.specs.Steps.{answered, AnswerStep};
+ghost use Rattle.card_rules.specs.Keys.{keys};
+ghost use Rattle.card_rules.specs.Asking.{answersSize};
+ghost use Rattle.card_steps.specs.Steps.{answered, AnswerStep};
 
 // Writes the frame of all first answers, for which there is room.
 fn put_answers(

@@ -1,10 +1,10 @@
 // Begin: all commitments are written.
-use crate::Step;
 use card_checks::order::check_begin;
-use card_checks::session::COMMITTED;
-use card_checks::session::Session;
-use frames::kind::Kind;
+use card_rules::session::COMMITTED;
+use card_rules::session::Session;
+use card_steps::Step;
 use frames::wide;
+use kinds::Kind;
 use refusals::Checked;
 use rounds::card::commit_all;
 use writers::Written;
@@ -13,14 +13,14 @@ ghost use mathlib.Core.Path.{_≡_};
 ghost use Prim.Native.Nat.{_≤_};
 ghost use lib.ListN.{length};
 ghost use Rattle.algebra.specs.Lists.{over, joined};
-ghost use Rattle.algebra.specs.Matrices.{SystemFits};
+ghost use Rattle.matrices.specs.Matrices.{SystemFits};
 ghost use Rattle.writers.specs.Writing.{frame};
-ghost use Rattle.round.specs.Round.{systemOf};
+ghost use Rattle.scheme.specs.Round.{systemOf};
 ghost use Rattle.rounds.specs.Layout.{CardFits};
 ghost use Rattle.rounds.specs.Rounds.{commitmentsAt};
-ghost use Rattle.card_checks.specs.Keys.{keys};
-ghost use Rattle.card_checks.specs.Asking.{commitmentsSize};
-ghost use Rattle.card.specs.Steps.{BeginStep};
+ghost use Rattle.card_rules.specs.Keys.{keys};
+ghost use Rattle.card_rules.specs.Asking.{commitmentsSize};
+ghost use Rattle.card_steps.specs.Steps.{BeginStep};
 
 // Writes the frame of all commitments, for which there is room.
 fn put_commitments(

@@ -1,8 +1,8 @@
 // Give up: record and choices are zeroed.
-use card_checks::session::IDLE;
-use card_checks::session::Session;
+use card_rules::session::IDLE;
+use card_rules::session::Session;
 ghost use mathlib.Core.Path.{_≡_};
-ghost use Rattle.card.specs.Steps.{zeroed, GiveUpStep};
+ghost use Rattle.card_steps.specs.Steps.{zeroed, GiveUpStep};
 
 // Fills the bytes with zeros.
 pub fn zero(bytes: &mut [u8])

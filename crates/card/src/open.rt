@@ -1,12 +1,12 @@
 // Open: all openings are written once the card's own check has passed, and the choices are zeroed.
-use crate::Step;
 use crate::give_up::zero;
-use crate::own_check::own_failing;
 use card_checks::order::check_open;
-use card_checks::session::CLOSED;
-use card_checks::session::Session;
-use frames::kind::Kind;
+use card_rules::session::CLOSED;
+use card_rules::session::Session;
+use card_steps::Step;
 use frames::wide;
+use kinds::Kind;
+use own_check::own_failing;
 use refusals::Checked;
 use refusals::buffer::CHOICES;
 use refusals::number::SELF;
@@ -22,9 +22,9 @@ ghost use Rattle.algebra.specs.Lists.{over, joined};
 ghost use Rattle.writers.specs.Writing.{frame};
 ghost use Rattle.rounds.specs.Layout.{CardFits};
 ghost use Rattle.rounds.specs.Rounds.{openingAt};
-ghost use Rattle.card_checks.specs.Keys.{keys};
-ghost use Rattle.card_checks.specs.Asking.{openingsSize};
-ghost use Rattle.card.specs.Steps.{OpenReady, ownCheck, openRefusal, OpenStep};
+ghost use Rattle.card_rules.specs.Keys.{keys};
+ghost use Rattle.card_rules.specs.Asking.{openingsSize};
+ghost use Rattle.card_steps.specs.Steps.{OpenReady, ownCheck, openRefusal, OpenStep};
 
 // Writes the frame of all openings, for which there is room.
 fn put_openings(pi: &[u8], n: usize, rounds: usize, bits: &[u8], choices: &[u8], out: &mut [u8])

@@ -1,19 +1,19 @@
 // The frames of system, public key and secret key, and whether the key is valid.
-use algebra::matrix::key_fault;
-use frames::kind::Kind;
-use frames::kind::of_places;
 use frames::read::Read;
 use frames::read::read_frame;
-use frames::read::read_system;
 use frames::wide;
+use kinds::Kind;
+use kinds::of_places;
+use matrices::key_fault;
+use readers::read_system;
 use refusals::Checked;
 use refusals::buffer::SECRET;
 use refusals::number::KEY;
 use refusals::refuse;
 ghost use mathlib.Core.Path.{_≡_};
 ghost use Rattle.refusals.specs.Told.{means};
-ghost use Rattle.card_checks.specs.Keys.{keys, keysCheck, validCheck, ChecksKey};
-ghost use Rattle.card_checks.specs.Lent.{KeysFit};
+ghost use Rattle.card_rules.specs.Keys.{keys, keysCheck, validCheck, ChecksKey};
+ghost use Rattle.card_rules.specs.Lent.{KeysFit};
 
 // Buffers 1, 2, 3; n is the system's.
 pub fn check_keys(system: &[u8], public: &[u8], secret: &[u8]) -> Checked

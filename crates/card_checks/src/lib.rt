@@ -1,4 +1,3 @@
 // What the card asks of its record and of what it is lent, in document 01's order.
 pub mod key;
 pub mod order;
-pub mod session;

@@ -1,20 +1,20 @@
 // What begin, answer and open ask before they do anything, each in its order.
 use crate::key::check_keys;
 use crate::key::check_valid;
-use crate::session::ANSWERED;
-use crate::session::COMMITTED;
-use crate::session::Session;
-use crate::session::at_rest;
-use crate::session::kept_fit;
-use crate::session::record_fits;
-use frames::choices::check_choices;
-use frames::kind::Kind;
-use frames::kind::alone;
-use frames::kind::exactly;
-use frames::kind::within;
+use card_rules::session::ANSWERED;
+use card_rules::session::COMMITTED;
+use card_rules::session::Session;
+use card_rules::session::at_rest;
+use card_rules::session::kept_fit;
+use card_rules::session::record_fits;
 use frames::read::Read;
 use frames::read::read_frame;
 use frames::wide;
+use kinds::Kind;
+use kinds::alone;
+use kinds::exactly;
+use kinds::within;
+use readers::choices::check_choices;
 use refusals::Checked;
 use refusals::buffer::NONE;
 use refusals::buffer::OUTPUT;
@@ -25,9 +25,9 @@ use refusals::refuse;
 ghost use mathlib.Core.Path.{_≡_};
 ghost use Prim.Native.Nat.{_<_};
 ghost use Rattle.refusals.specs.Told.{means};
-ghost use Rattle.card_checks.specs.Keys.{keys};
-ghost use Rattle.card_checks.specs.Lent.{KeysFit};
-ghost use Rattle.card_checks.specs.Asking.{restCheck, beginCheck, answerCheck, openCheck};
+ghost use Rattle.card_rules.specs.Keys.{keys};
+ghost use Rattle.card_rules.specs.Lent.{KeysFit};
+ghost use Rattle.card_rules.specs.Asking.{restCheck, beginCheck, answerCheck, openCheck};
 
 // What comes last at each of the three: the choices, KEY, ROOM.
 fn check_rest(

@@ -8,25 +8,25 @@ use Prim.Native.Nat.{ℕ}
 use Rattle.refusals.specs.declared.Refusal.{Refusal}
 use Rattle.refusals.specs.declared.Checked.{Checked}
 use Rattle.refusals.specs.Told.{Told, means}
-use Rattle.algebra.specs.Drawings.{Drawing}
+use Rattle.random.specs.Drawings.{Drawing}
 use Rattle.sha256.specs.Call.{Hashes}
 use Rattle.sha256.proofs.Call.{one-outcome}
-use Rattle.frames.specs.declared.kind.Kind.{Kind}
+use Rattle.kinds.specs.declared.Kind.{Kind}
 use Rattle.writers.specs.declared.Written.the-variants.{Refused}
-use Rattle.frames.specs.Kinds.{alone}
+use Rattle.kinds.specs.Kinds.{alone}
 use Rattle.frames.specs.Reading.{Reads, openingCheck}
 use Rattle.writers.specs.Writing.{Writes}
-use Rattle.frames.proofs.Outcomes.{one-reading, one-opening-check}
+use Rattle.readers.proofs.Outcomes.{one-reading, one-opening-check}
 use Rattle.writers.proofs.Outcomes.{one-writing, refused-writes-nothing}
 use Rattle.draw.specs.declared.Taken.the-variants.{Refused as NotTaken}
 use Rattle.draw.specs.Telling.{Draws}
 use Rattle.draw.proofs.Outcomes.{one-drawing, refused-draws-nothing}
-use Rattle.card_checks.specs.declared.session.Session.{Session}
-use Rattle.card_checks.specs.Keys.{Keys, ChecksKey}
-use Rattle.card_checks.proofs.Outcomes.{one-key-check}
-use Rattle.card.specs.declared.Step.{Step}
-use Rattle.card.specs.Steps.{BeginStep, AnswerStep, OpenStep, GiveUpStep}
-use Rattle.card.proofs.Outcomes.{one-begin, refused-begin, one-answer, refused-answer, one-open, refused-open, one-give-up}
+use Rattle.card_rules.specs.declared.session.Session.{Session}
+use Rattle.card_rules.specs.Keys.{Keys, ChecksKey}
+use Rattle.card_rules.proofs.Outcomes.{one-key-check}
+use Rattle.card_steps.specs.declared.Step.{Step}
+use Rattle.card_steps.specs.Steps.{BeginStep, AnswerStep, OpenStep, GiveUpStep}
+use Rattle.card_steps.proofs.Outcomes.{one-begin, refused-begin, one-answer, refused-answer, one-open, refused-open, one-give-up}
 use Rattle.register.specs.Verdict.{SignOn, Judges}
 use Rattle.register.proofs.Outcomes.{one-verdict}
 use Rattle.stand_in.specs.Standing.{StandsIn}

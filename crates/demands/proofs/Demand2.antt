@@ -12,25 +12,25 @@ use lib.ListN.{getD, take}
 use Rattle.refusals.specs.Told.{done}
 use Rattle.algebra.specs.Residues.{modulus}
 use Rattle.algebra.proofs.Lists.{front}
-use Rattle.frames.specs.declared.kind.Kind.{Kind}
-use Rattle.frames.specs.declared.kind.Kind.the-variants.{Commitments, Challenges, Answers, Bits, Openings}
-use Rattle.frames.specs.declared.kind.Expected.{Expected}
+use Rattle.kinds.specs.declared.Kind.{Kind}
+use Rattle.kinds.specs.declared.Kind.the-variants.{Commitments, Challenges, Answers, Bits, Openings}
+use Rattle.kinds.specs.declared.Expected.{Expected}
 use Rattle.writers.specs.declared.Written.the-variants.{Wrote}
-use Rattle.frames.specs.Kinds.{limits, within, alone, ofPlaces, exactly, fits}
+use Rattle.kinds.specs.Kinds.{limits, within, alone, ofPlaces, exactly, fits}
 use Rattle.frames.specs.Reading.{restOf}
 use Rattle.writers.specs.Writing.{frame}
 use Rattle.frames.proofs.Facts.{FrameFits, reading-told, refit, rest-length, first-asked}
-use Rattle.frames.proofs.Chosen.{values-told}
+use Rattle.readers.proofs.Chosen.{values-told}
 use Rattle.rounds.specs.Layout.{Messages}
 use Rattle.rounds.specs.Rounds.{honestRun, passesAt}
 use Rattle.rounds.proofs.Runs.{honest-round-passes}
-use Rattle.card_checks.specs.declared.session.Session.{Session}
-use Rattle.card_checks.specs.Keys.{Keys, placesOf, publicOf, secretOf}
-use Rattle.card_checks.specs.Lent.{matrixOf, LentFits}
-use Rattle.card.specs.declared.Step.{Step}
-use Rattle.card.specs.Steps.{commitmentsOf, BeginStep, answersOf, AnswerStep, openingsOf, OpenStep}
-use Rattle.card.proofs.ReadBack.{ReadBack, honest-messages}
-use Rattle.card.proofs.Written.{BeginWrote, begin-wrote, AnswerWrote, answer-wrote, OpenWrote, open-wrote}
+use Rattle.card_rules.specs.declared.session.Session.{Session}
+use Rattle.card_rules.specs.Keys.{Keys, placesOf, publicOf, secretOf}
+use Rattle.card_rules.specs.Lent.{matrixOf, LentFits}
+use Rattle.card_steps.specs.declared.Step.{Step}
+use Rattle.card_steps.specs.Steps.{commitmentsOf, BeginStep, answersOf, AnswerStep, openingsOf, OpenStep}
+use Rattle.card_steps.proofs.ReadBack.{ReadBack, honest-messages}
+use Rattle.card_steps.proofs.Written.{BeginWrote, begin-wrote, AnswerWrote, answer-wrote, OpenWrote, open-wrote}
 use Rattle.register.specs.Verdict.{SignOn, signOn, roundsIn, enough, messagesIn, roundPasses, judging}
 use Rattle.register.proofs.Facts.{ExchangeFits, FramesFit}
 use Rattle.register.proofs.Exact.{accepted←}

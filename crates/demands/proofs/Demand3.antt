@@ -10,16 +10,16 @@ use lib.Dec.{eqb}
 use lib.ListN.{length, getD}
 use Rattle.refusals.specs.Told.{done}
 use Rattle.algebra.specs.Residues.{modulus}
-use Rattle.frames.specs.declared.kind.Kind.the-variants.{Challenges, Bits}
+use Rattle.kinds.specs.declared.Kind.the-variants.{Challenges, Bits}
 use Rattle.frames.specs.Reading.{restOf}
 use Rattle.packed_bits.specs.PackedBits.{bitAt}
-use Rattle.round.specs.Round.{Sound, Pair, WellFormed, standIn}
-use Rattle.round.specs.Pairing.{there, Pairing}
-use Rattle.round.proofs.Pairing.{pairing}
+use Rattle.scheme.specs.Round.{Sound, Pair, WellFormed, standIn}
+use Rattle.scheme.specs.Pairing.{there, Pairing}
+use Rattle.scheme.proofs.Pairing.{pairing}
 use Rattle.rounds.specs.Layout.{Messages, pairAt, openedAt}
 use Rattle.rounds.proofs.Runs.{honest-opened}
-use Rattle.card_checks.specs.Keys.{Keys, placesOf, publicOf, secretOf}
-use Rattle.card_checks.specs.Lent.{matrixOf, LentFits}
+use Rattle.card_rules.specs.Keys.{Keys, placesOf, publicOf, secretOf}
+use Rattle.card_rules.specs.Lent.{matrixOf, LentFits}
 use Rattle.stand_in.specs.Standing.{roundSize, standing, standInOf}
 use Rattle.stand_in.proofs.Facts.{stand-in-of, lent-passes}
 use Rattle.stand_in.proofs.Outcomes.{passed-tells}

@@ -9,28 +9,28 @@ use lib.ListN.{length, replicate, length-replicate}
 use Rattle.refusals.specs.Told.{done, fine, firstBelow}
 use Rattle.algebra.specs.Lists.{tab, sumBelow, allBelow, firstFrom, count, stretch, over, sameBytes}
 use Rattle.algebra.specs.Permutations.{isPerm, permute}
-use Rattle.algebra.specs.Matrices.{rowTimes, entry, productAt, keyFault}
+use Rattle.matrices.specs.Matrices.{rowTimes, entry, productAt, keyFault}
 use Rattle.compression.specs.Constants.{H0, K}
 use Rattle.compression.specs.Block.{T1, T2, W, compressOf, expandOf, sumOf, turnOf, turnsOf, wordOf}
 use Rattle.compression.specs.Operations.{Ch, Maj, ROTR, wordAt, _⊞_, Σ0, Σ1, σ0, σ1}
 use Rattle.sha256.specs.Standard.{blockAt, blockCount, bytes, bytesOf, bytesOfWords, digestOf, hashValue, pad, padding, zeros}
-use Rattle.frames.specs.declared.kind.Kind.the-variants.{Commitments, Challenges, Answers, Openings}
+use Rattle.kinds.specs.declared.Kind.the-variants.{Commitments, Challenges, Answers, Openings}
 use Rattle.writers.specs.declared.Written.the-variants.{Wrote}
 use Rattle.packed_bits.specs.PackedBits.{bitAt, unusedClear}
 use Rattle.frames.specs.Reading.{header, shape, values, permutations, reading, restOf}
 use Rattle.writers.specs.Writing.{frame}
-use Rattle.frames.specs.Choosing.{vectorOf, permutationOf, choiceCheck, choicesCheck}
-use Rattle.round.specs.Round.{calledFor, passes}
-use Rattle.round.specs.Pairing.{Pairing}
+use Rattle.readers.specs.Choosing.{vectorOf, permutationOf, choiceCheck, choicesCheck}
+use Rattle.scheme.specs.Round.{calledFor, passes}
+use Rattle.scheme.specs.Pairing.{Pairing}
 use Rattle.rounds.specs.Layout.{half, openedAt}
 use Rattle.rounds.specs.Rounds.{passesAt}
-use Rattle.card_checks.specs.declared.session.Session.{Session}
-use Rattle.card_checks.specs.Keys.{Keys, keys, publicOf, secretOf, keysCheck, validCheck}
-use Rattle.card_checks.specs.Lent.{matrixOf}
-use Rattle.card_checks.specs.Asking.{atRest, recordFits, keptFit, restCheck, beginCheck, answerCheck, openCheck}
-use Rattle.card_checks.proofs.Facts.{open-told}
-use Rattle.card.specs.Steps.{beginTold, begun, commitmentsOf, answerTold, answered, answersOf, openRefusal, openTold, closed, openingsOf, zeroed, fresh}
-use Rattle.card.proofs.Opening.{open-ready, own-fine}
+use Rattle.card_rules.specs.declared.session.Session.{Session}
+use Rattle.card_rules.specs.Keys.{Keys, keys, publicOf, secretOf, keysCheck, validCheck}
+use Rattle.card_rules.specs.Lent.{matrixOf}
+use Rattle.card_rules.specs.Asking.{atRest, recordFits, keptFit, restCheck, beginCheck, answerCheck, openCheck}
+use Rattle.card_rules.proofs.Facts.{open-told}
+use Rattle.card_steps.specs.Steps.{beginTold, begun, commitmentsOf, answerTold, answered, answersOf, openRefusal, openTold, closed, openingsOf, zeroed, fresh}
+use Rattle.card_steps.proofs.Opening.{open-ready, own-fine}
 use Rattle.stand_in.specs.Standing.{standInOf}
 use Rattle.register.specs.Verdict.{SignOn, signOn, basisCheck, exchangeCheck, framesCheck, enough, messagesIn, judging}
 use Rattle.register.proofs.Facts.{frames-told}

@@ -9,19 +9,19 @@ use Rattle.refusals.specs.Told.{Told, done, refused, firstBelow}
 use Rattle.algebra.specs.Lists.{tab, sumBelow, allBelow, firstFrom, count, stretch}
 use Rattle.algebra.specs.Residues.{modulus, addScaled}
 use Rattle.algebra.specs.Permutations.{isPerm, permute, compose, identity}
-use Rattle.algebra.specs.Matrices.{rowTimes, product, entry, productAt, keyFault}
-use Rattle.algebra.specs.Drawings.{drawLeft, drawBelow, Drawing, usedBy, exchange, shuffle, drawPermutation}
-use Rattle.frames.specs.declared.kind.Kind.the-variants.{Challenges, Bits}
-use Rattle.frames.specs.Kinds.{within, alone}
+use Rattle.matrices.specs.Matrices.{rowTimes, product, entry, productAt, keyFault}
+use Rattle.random.specs.Drawings.{drawLeft, drawBelow, Drawing, usedBy, exchange, shuffle, drawPermutation}
+use Rattle.kinds.specs.declared.Kind.the-variants.{Challenges, Bits}
+use Rattle.kinds.specs.Kinds.{within, alone}
 use Rattle.packed_bits.specs.PackedBits.{bitAt}
 use Rattle.packed_bits.specs.Clearing.{cleared}
 use Rattle.frames.specs.Reading.{header, shape, values, permutations, reading, restOf}
 use Rattle.writers.specs.Writing.{frame}
-use Rattle.draw.specs.Sequences.{listOf, manyTimes, oneBelow}
+use Rattle.random.specs.Sequences.{listOf, manyTimes, oneBelow}
 use Rattle.draw.specs.Making.{drawChallenges, drawBits}
 use Rattle.draw.specs.Telling.{bare, telling}
-use Rattle.round.specs.Round.{pair, firstAnswer}
-use Rattle.card_checks.specs.Keys.{keys, keysCheck, validCheck, keyCheck}
+use Rattle.scheme.specs.Round.{pair, firstAnswer}
+use Rattle.card_rules.specs.Keys.{keys, keysCheck, validCheck, keyCheck}
 
 abbrev three : ℕ → ℕ → ℕ → List ℕ
 three a b c = a ∷ b ∷ c ∷ []

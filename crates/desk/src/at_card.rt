@@ -1,12 +1,12 @@
 // The card's calls.
 use crate::keep::refuse;
-use card::Step;
 use card::answer::answer_step;
 use card::begin::begin_step;
 use card::give_up::give_up_step;
 use card::open::open_step;
 use card_checks::key::check_key;
-use card_checks::session::Session;
+use card_rules::session::Session;
+use card_steps::Step;
 use desk_files::argument::number;
 use desk_files::save::NOTHING;
 use desk_files::save::save_three;

@@ -9,12 +9,12 @@ use draw::Taken;
 use draw::choices::draw_choices;
 use draw::messages::draw_bits;
 use draw::messages::draw_challenges;
-use frames::kind::Kind;
-use frames::kind::size_of;
 use frames::read::count_of;
 use hosting::bytes::front;
 use hosting::text::say;
 use hosting::text::say_with;
+use kinds::Kind;
+use kinds::size_of;
 use refusals::buffer::RANDOM;
 
 // The frame that stands in front of the bytes, by its count.

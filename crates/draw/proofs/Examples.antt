@@ -5,13 +5,13 @@ use mathlib.Core.List.{[], _∷_}
 use Rattle.refusals.specs.Number.{SHAPE, ROOM, DRAW}
 use Rattle.refusals.specs.Buffer.{NONE, RANDOM, OUTPUT}
 use Rattle.refusals.specs.Told.{done, refused}
-use Rattle.algebra.specs.declared.draw.Used.the-variants.{To, RanOut}
+use Rattle.random.specs.declared.draw.Used.the-variants.{To, RanOut}
 use Rattle.algebra.specs.Lists.{tab}
 use Rattle.algebra.specs.Permutations.{identity}
-use Rattle.algebra.specs.Drawings.{drawLeft, drawBelow, drew, ranOut, exchange, shuffle, drawPermutation}
+use Rattle.random.specs.Drawings.{drawLeft, drawBelow, drew, ranOut, exchange, shuffle, drawPermutation}
 use Rattle.packed_bits.specs.Clearing.{cleared}
 use Rattle.writers.specs.Writing.{frame}
-use Rattle.draw.specs.Sequences.{manyTimes, oneBelow, drawResidues}
+use Rattle.random.specs.Sequences.{manyTimes, oneBelow, drawResidues}
 use Rattle.draw.specs.Making.{drawChallenges, drawBits, drawChoice, drawChoices}
 use Rattle.draw.specs.Telling.{bare, choicesFit, telling}
 

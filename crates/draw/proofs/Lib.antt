@@ -1,5 +1,4 @@
 -- The laws of drawings one after the other and of what a drawing tells, the theorems of what is drawn, and examples.
-pub mod Sequences
 pub mod Making
 pub mod Orders
 pub mod Outcomes

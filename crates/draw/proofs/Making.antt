@@ -7,17 +7,17 @@ use native.Mathlib.Omega.{arith}
 use lib.ListN.{length, length-append}
 use Rattle.algebra.specs.Residues.{modulus, Residues}
 use Rattle.algebra.specs.Permutations.{longest}
-use Rattle.algebra.specs.Drawings.{Drawing, drew, ranOut, drawPermutation}
+use Rattle.random.specs.Drawings.{Drawing, drew, ranOut, drawPermutation}
 use Rattle.algebra.proofs.Lists.{&&-left, &&-right}
-use Rattle.algebra.proofs.Drawings.{Permutes, drawn-perm}
-use Rattle.frames.specs.Kinds.{limits, within, alone}
+use Rattle.random.proofs.Drawings.{Permutes, drawn-perm}
+use Rattle.kinds.specs.Kinds.{limits, within, alone}
 use Rattle.frames.proofs.Facts.{within-told}
-use Rattle.frames.specs.Choosing.{choiceSize}
-use Rattle.frames.proofs.Passing.{Chosen}
-use Rattle.draw.specs.Sequences.{made, andThen, drawResidues}
+use Rattle.readers.specs.Choosing.{choiceSize}
+use Rattle.readers.proofs.Passing.{Chosen}
+use Rattle.random.specs.Sequences.{made, andThen, drawResidues}
 use Rattle.draw.specs.Making.{drawChoice}
 use Rattle.draw.specs.Telling.{choicesFit}
-use Rattle.draw.proofs.Sequences.{Always, some-below}
+use Rattle.random.proofs.Sequences.{Always, some-below}
 
 -- the choices of one round are R and then σ
 pub choice-chosen : (n : ℕ) (random : List ℕ) → 0 < n → (at : ℕ) → Always (λ (l : List ℕ). (length l ≡ choiceSize n) × Chosen n l) (drawChoice n random at)

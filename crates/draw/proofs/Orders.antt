@@ -9,8 +9,8 @@ use Rattle.refusals.specs.declared.Refusal.{Refusal}
 use Rattle.refusals.specs.Number.{SHAPE, ROOM, DRAW}
 use Rattle.refusals.specs.Buffer.{NONE, RANDOM, OUTPUT}
 use Rattle.refusals.specs.Told.{Told, done, refused, told, fine}
-use Rattle.algebra.specs.declared.draw.Used.the-variants.{To, RanOut}
-use Rattle.algebra.specs.Drawings.{Drawing, usedBy, drawnOver}
+use Rattle.random.specs.declared.draw.Used.the-variants.{To, RanOut}
+use Rattle.random.specs.Drawings.{Drawing, usedBy, drawnOver}
 use Rattle.draw.specs.declared.Taken.{Taken}
 use Rattle.draw.specs.declared.Taken.the-variants.{Bytes, Refused}
 use Rattle.draw.specs.Telling.{refusal, bare, telling, Draws}

@@ -11,9 +11,9 @@ use Rattle.refusals.specs.Buffer.{OUTPUT}
 use Rattle.refusals.specs.Told.{Told, done, refused, first, demand}
 use Rattle.refusals.proofs.Chain.{UpTo, first-done, done-most, first-most, test-most}
 use Rattle.algebra.specs.Lists.{over}
-use Rattle.algebra.specs.Drawings.{Drawing, drew, ranOut}
-use Rattle.algebra.specs.declared.draw.Used.{Used}
-use Rattle.algebra.specs.declared.draw.Used.the-variants.{To, RanOut}
+use Rattle.random.specs.Drawings.{Drawing, drew, ranOut}
+use Rattle.random.specs.declared.draw.Used.{Used}
+use Rattle.random.specs.declared.draw.Used.the-variants.{To, RanOut}
 use Rattle.draw.specs.declared.Taken.{Taken}
 use Rattle.draw.specs.declared.Taken.the-variants.{Bytes, Refused}
 use Rattle.draw.specs.Telling.{takenMeans, telling, usedTold, drawnAfter, Draws}

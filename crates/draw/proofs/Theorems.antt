@@ -12,27 +12,27 @@ use Rattle.refusals.specs.Told.{done, fine}
 use Rattle.algebra.specs.Lists.{tab}
 use Rattle.algebra.specs.Residues.{modulus, Residues}
 use Rattle.algebra.specs.Permutations.{IsPerm}
-use Rattle.algebra.specs.Drawings.{Drawing, drew, ranOut, drawPermutation}
+use Rattle.random.specs.Drawings.{Drawing, drew, ranOut, drawPermutation}
 use Rattle.algebra.proofs.Lists.{length-tab, getD-tab, tab-of}
-use Rattle.algebra.proofs.Drawings.{Permutes, drawn-perm}
-use Rattle.algebra.proofs.Fair.{drawn-at}
-use Rattle.frames.specs.declared.kind.Kind.{Kind}
-use Rattle.frames.specs.declared.kind.Kind.the-variants.{Challenges, Bits}
-use Rattle.frames.specs.Kinds.{within, alone, table}
+use Rattle.random.proofs.Drawings.{Permutes, drawn-perm}
+use Rattle.random.proofs.Fair.{drawn-at}
+use Rattle.kinds.specs.declared.Kind.{Kind}
+use Rattle.kinds.specs.declared.Kind.the-variants.{Challenges, Bits}
+use Rattle.kinds.specs.Kinds.{within, alone, table}
 use Rattle.packed_bits.specs.PackedBits.{bitAt, Bytes}
 use Rattle.packed_bits.specs.Clearing.{packedSize, cleared}
 use Rattle.writers.specs.Values.{valuesOf}
 use Rattle.frames.specs.Reading.{restOf, reading}
 use Rattle.writers.specs.Writing.{frame}
-use Rattle.frames.specs.Choosing.{choiceSize, choicesCheck}
+use Rattle.readers.specs.Choosing.{choiceSize, choicesCheck}
 use Rattle.frames.proofs.Facts.{within-told}
 use Rattle.packed_bits.proofs.Clearing.{length-cleared, cleared-keeps, cleared-clear}
-use Rattle.frames.proofs.Passing.{residues-pass, Chosen, choices-pass}
+use Rattle.readers.proofs.Passing.{residues-pass, Chosen, choices-pass}
 use Rattle.writers.proofs.Spelling.{frame-spells, written-read}
 use Rattle.writers.proofs.Writing.{Plain}
-use Rattle.draw.specs.Sequences.{made, andThen, someBelow, byteLimit, drawResidues, oneBelow, manyTimes}
+use Rattle.random.specs.Sequences.{made, andThen, someBelow, byteLimit, drawResidues, oneBelow, manyTimes}
 use Rattle.draw.specs.Making.{drawChallenges, drawBits, drawChoice, drawChoices}
-use Rattle.draw.proofs.Sequences.{Always, Stretches, times-each, one-got, some-below}
+use Rattle.random.proofs.Sequences.{Always, Stretches, times-each, one-got, some-below}
 use Rattle.draw.proofs.Making.{choice-chosen}
 
 -- ---- residues and permutations

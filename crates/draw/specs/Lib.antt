@@ -1,4 +1,3 @@
 -- Drawing from lent bytes: drawings one after the other, what each call draws, and what it tells.
-pub mod Sequences
 pub mod Making
 pub mod Telling

@@ -1,11 +1,11 @@
 -- What each call draws (document 01, "Drawing from lent bytes"). A permutation is `drawPermutation` of the algebra.
 use mathlib.Core.List.{List}
 use Prim.Native.Nat.{ℕ}
-use Rattle.algebra.specs.Drawings.{Drawing, drawPermutation}
-use Rattle.frames.specs.declared.kind.Kind.the-variants.{Challenges, Bits}
+use Rattle.random.specs.Drawings.{Drawing, drawPermutation}
+use Rattle.kinds.specs.declared.Kind.the-variants.{Challenges, Bits}
 use Rattle.packed_bits.specs.Clearing.{packedSize, cleared}
 use Rattle.writers.specs.Writing.{frame}
-use Rattle.draw.specs.Sequences.{made, andThen, manyTimes, someBelow, byteLimit, drawResidues}
+use Rattle.random.specs.Sequences.{made, andThen, manyTimes, someBelow, byteLimit, drawResidues}
 
 -- challenges: N residues, as kind 5
 unfoldable pub drawChallenges : ℕ → List ℕ → Drawing

@@ -8,10 +8,10 @@ use lib.ListN.{length}
 use Rattle.refusals.specs.Number.{SHAPE, ROOM, DRAW}
 use Rattle.refusals.specs.Buffer.{NONE, RANDOM, OUTPUT}
 use Rattle.refusals.specs.Told.{Told, done, refused, told, first, demand}
-use Rattle.algebra.specs.declared.draw.Used.{Used}
-use Rattle.algebra.specs.declared.draw.Used.the-variants.{To, RanOut}
-use Rattle.algebra.specs.Drawings.{Drawing, usedBy, drawnOver}
-use Rattle.frames.specs.Kinds.{limits, within, alone}
+use Rattle.random.specs.declared.draw.Used.{Used}
+use Rattle.random.specs.declared.draw.Used.the-variants.{To, RanOut}
+use Rattle.random.specs.Drawings.{Drawing, usedBy, drawnOver}
+use Rattle.kinds.specs.Kinds.{limits, within, alone}
 use Rattle.draw.specs.declared.Taken.{Taken}
 use Rattle.draw.specs.declared.Taken.the-variants.{Bytes, Refused}
 

@@ -1,20 +1,19 @@
 // Drawing from lent bytes. Each call measures first and writes then, so that bytes that run out leave the output as it was.
-use frames::kind::Kind;
-use frames::kind::alone;
-use frames::kind::size_of;
-use frames::kind::start_of;
-use frames::kind::within;
+use kinds::Kind;
+use kinds::alone;
+use kinds::size_of;
+use kinds::start_of;
+use kinds::within;
 use refusals::Refusal;
 ghost use mathlib.Core.Path.{_≡_};
 ghost use Prim.Native.Nat.{_≤_, _<_};
 ghost use Rattle.algebra.specs.Permutations.{longest};
-ghost use Rattle.frames.specs.Kinds.{within, alone, frameSize};
+ghost use Rattle.kinds.specs.Kinds.{within, alone, frameSize};
 ghost use Rattle.draw.specs.Telling.{refusal};
 
 pub mod choices;
 pub mod messages;
 pub mod permutation;
-pub mod sequence;
 
 // What a drawing answers: the random bytes used, skipped ones counted.
 pub enum Taken {

@@ -2,15 +2,15 @@
 use crate::Taken;
 use crate::places_fit;
 use crate::refuse;
-use algebra::draw::Used;
+use random::draw::Used;
 use refusals::buffer::NONE;
 use refusals::buffer::OUTPUT;
 use refusals::buffer::RANDOM;
 use refusals::number::DRAW;
 use refusals::number::ROOM;
 use refusals::number::SHAPE;
-ghost use Rattle.algebra.specs.Drawings.{drawPermutation};
-ghost use Rattle.frames.specs.Kinds.{alone, within};
+ghost use Rattle.random.specs.Drawings.{drawPermutation};
+ghost use Rattle.kinds.specs.Kinds.{alone, within};
 ghost use Rattle.draw.specs.Telling.{bare, Draws};
 
 // Draws a permutation of n.
@@ -23,7 +23,7 @@ pub fn draw_permutation(n: usize, random: &[u8], out: &mut [u8]) -> Taken
     if out.len() < n {
         return refuse(ROOM, OUTPUT, n);
     }
-    match algebra::draw::draw_permutation(random, 0, n, out) {
+    match random::draw::draw_permutation(random, 0, n, out) {
         Used::RanOut => refuse(DRAW, RANDOM, random.len()),
         Used::To(used) => Taken::Bytes(used),
     }

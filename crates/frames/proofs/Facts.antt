@@ -13,13 +13,13 @@ use Rattle.refusals.specs.Told.{Told, done, first, demand}
 use Rattle.refusals.proofs.Chain.{Passed, first-done, demand-done}
 use Rattle.algebra.specs.Permutations.{longest}
 use Rattle.algebra.proofs.Lists.{&&-left, &&-right}
-use Rattle.frames.specs.declared.kind.Kind.{Kind}
-use Rattle.frames.specs.declared.kind.Kind.the-variants.{System, Public, Secret, Commitments, Challenges, Answers, Bits, Openings}
-use Rattle.frames.specs.declared.kind.Limits.{Limits}
-use Rattle.frames.specs.declared.kind.Expected.{Expected}
+use Rattle.kinds.specs.declared.Kind.{Kind}
+use Rattle.kinds.specs.declared.Kind.the-variants.{System, Public, Secret, Commitments, Challenges, Answers, Bits, Openings}
+use Rattle.kinds.specs.declared.Limits.{Limits}
+use Rattle.kinds.specs.declared.Expected.{Expected}
 use Rattle.frames.specs.declared.read.Read.{Read}
 use Rattle.frames.specs.declared.read.Read.the-variants.{Frame}
-use Rattle.frames.specs.Kinds.{limits, within, alone, Modest, table, fits}
+use Rattle.kinds.specs.Kinds.{limits, within, alone, Modest, table, fits}
 use Rattle.frames.specs.Reading.{countOf, header, firstOf, secondOf, restOf, spareClear, shape, content, reading, readMeans, Reads}
 use Rattle.frames.proofs.Orders.{headed, spare-decides}
 

@@ -1,9 +1,4 @@
--- The laws of frames, and examples.
+-- The laws of frames.
 pub mod Loops
 pub mod Orders
 pub mod Facts
-pub mod OpeningLaws
-pub mod Passing
-pub mod Chosen
-pub mod Outcomes
-pub mod Examples

@@ -10,11 +10,11 @@ use lib.Seq.{take-all}
 use Rattle.refusals.specs.declared.Refusal.{Refusal}
 use Rattle.refusals.specs.Number.{SHORT, LONG, VERSION, KIND}
 use Rattle.refusals.specs.Told.{Told, done, refused, fine, told, first}
-use Rattle.frames.specs.declared.kind.Kind.{Kind}
-use Rattle.frames.specs.declared.kind.Expected.{Expected}
+use Rattle.kinds.specs.declared.Kind.{Kind}
+use Rattle.kinds.specs.declared.Expected.{Expected}
 use Rattle.frames.specs.declared.read.Read.{Read}
 use Rattle.frames.specs.declared.read.Read.the-variants.{Frame, Refused}
-use Rattle.frames.specs.Kinds.{table, fits}
+use Rattle.kinds.specs.Kinds.{table, fits}
 use Rattle.frames.specs.Reading.{countOf, header, firstOf, secondOf, restOf, spareClear, shape, content, readMeans}
 
 -- ---- the header; b is the kind's buffer

@@ -1,4 +1,2 @@
--- Frames: the table of kinds, what readers tell, and the choices.
-pub mod Kinds
+-- Frames: what a reader tells.
 pub mod Reading
-pub mod Choosing

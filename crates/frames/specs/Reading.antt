@@ -11,12 +11,12 @@ use Rattle.refusals.specs.Told.{Told, done, refused, told, fine, first, firstBe
 use Rattle.algebra.specs.Residues.{modulus}
 use Rattle.algebra.specs.Permutations.{isPerm}
 use Rattle.algebra.specs.Lists.{stretch}
-use Rattle.frames.specs.declared.kind.Kind.{Kind}
-use Rattle.frames.specs.declared.kind.Kind.the-variants.{System, Public, Secret, Commitments, Challenges, Answers, Bits, Openings}
-use Rattle.frames.specs.declared.kind.Expected.{Expected}
+use Rattle.kinds.specs.declared.Kind.{Kind}
+use Rattle.kinds.specs.declared.Kind.the-variants.{System, Public, Secret, Commitments, Challenges, Answers, Bits, Openings}
+use Rattle.kinds.specs.declared.Expected.{Expected}
 use Rattle.frames.specs.declared.read.Read.{Read}
 use Rattle.frames.specs.declared.read.Read.the-variants.{Frame, Refused}
-use Rattle.frames.specs.Kinds.{table, fits, alone}
+use Rattle.kinds.specs.Kinds.{table, fits, alone}
 use Rattle.packed_bits.specs.PackedBits.{unusedClear}
 
 -- the count of all bytes after the first two, big-endian

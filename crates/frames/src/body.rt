@@ -1,7 +1,7 @@
 // The bytes of a body after its numbers.
-use crate::kind::Kind;
 use algebra::MODULUS;
 use algebra::permutation::is_permutation;
+use kinds::Kind;
 use packed_bits::unused_clear;
 use refusals::Checked;
 use refusals::buffer::ANSWERS;
@@ -19,7 +19,7 @@ ghost use lib.ListN.{length};
 ghost use Rattle.refusals.specs.Told.{means};
 ghost use Rattle.algebra.specs.Permutations.{longest};
 ghost use Rattle.algebra.specs.Lists.{offsets};
-ghost use Rattle.frames.specs.Kinds.{table};
+ghost use Rattle.kinds.specs.Kinds.{table};
 ghost use Rattle.frames.specs.Reading.{spareClear, values, publicVector, permutations, content};
 
 // VALUE at the first residue above 250, where the first of them is at the offset `at`.

@@ -1,11 +1,8 @@
-// Frames: keys, messages and choices as bytes, with one spelling for each value.
+// Frames: keys and messages as bytes, with one spelling for each value. What is read here is read by the readers, and inside the calls.
 ghost use mathlib.Core.Path.{_≡_};
 ghost use Prim.Native.Nat.{_<_};
 
 pub mod body;
-pub mod choices;
-pub mod kind;
-pub mod opening;
 pub mod read;
 
 // A byte, as a number to count with.

@@ -1,16 +1,15 @@
 // Readers: the header, then SHAPE, then the bytes in order.
 use crate::body::check_content;
 use crate::body::spare_clear;
-use crate::kind::Expected;
-use crate::kind::Kind;
-use crate::kind::alone;
-use crate::kind::buffer_of;
-use crate::kind::number_of;
-use crate::kind::numbers_fit;
-use crate::kind::size_of;
-use crate::kind::start_of;
-use crate::kind::version_of;
 use crate::wide;
+use kinds::Expected;
+use kinds::Kind;
+use kinds::buffer_of;
+use kinds::number_of;
+use kinds::numbers_fit;
+use kinds::size_of;
+use kinds::start_of;
+use kinds::version_of;
 use refusals::Checked;
 use refusals::Refusal;
 use refusals::number::KIND;
@@ -25,7 +24,7 @@ ghost use lib.ListN.{length};
 ghost use Rattle.refusals.specs.Told.{means, demand};
 ghost use Rattle.refusals.specs.Number.{SHAPE};
 ghost use Rattle.algebra.specs.Lists.{offsets};
-ghost use Rattle.frames.specs.Kinds.{alone, Modest, table};
+ghost use Rattle.kinds.specs.Kinds.{Modest, table};
 ghost use Rattle.frames.specs.Reading.{countOf, header, secondOf, shape, Reads};
 
 // What a reader answers: the numbers (the second is 0 where a kind has one) and where the rest of the body starts.
@@ -126,59 +125,4 @@ fn check_shape(kind: Kind, expected: Expected, s: &[u8]) -> Checked
         return Checked::Fine;
     }
     refuse(SHAPE, buffer_of(kind), 4)
-}
-
-// A frame of any kind, alone.
-fn read_alone(kind: Kind, frame: &[u8]) -> Read
-    ensures { λ r. ⌜ Reads kind alone (now (frame .entry)) r ⌝ }
-{
-    read_frame(kind, alone(), frame)
-}
-
-pub fn read_system(frame: &[u8]) -> Read
-    ensures { λ r. ⌜ Reads Kind.System alone (now (frame .entry)) r ⌝ }
-{
-    read_alone(Kind::System, frame)
-}
-
-pub fn read_public_key(frame: &[u8]) -> Read
-    ensures { λ r. ⌜ Reads Kind.Public alone (now (frame .entry)) r ⌝ }
-{
-    read_alone(Kind::Public, frame)
-}
-
-pub fn read_secret_key(frame: &[u8]) -> Read
-    ensures { λ r. ⌜ Reads Kind.Secret alone (now (frame .entry)) r ⌝ }
-{
-    read_alone(Kind::Secret, frame)
-}
-
-pub fn read_commitments(frame: &[u8]) -> Read
-    ensures { λ r. ⌜ Reads Kind.Commitments alone (now (frame .entry)) r ⌝ }
-{
-    read_alone(Kind::Commitments, frame)
-}
-
-pub fn read_challenges(frame: &[u8]) -> Read
-    ensures { λ r. ⌜ Reads Kind.Challenges alone (now (frame .entry)) r ⌝ }
-{
-    read_alone(Kind::Challenges, frame)
-}
-
-pub fn read_first_answers(frame: &[u8]) -> Read
-    ensures { λ r. ⌜ Reads Kind.Answers alone (now (frame .entry)) r ⌝ }
-{
-    read_alone(Kind::Answers, frame)
-}
-
-pub fn read_bits(frame: &[u8]) -> Read
-    ensures { λ r. ⌜ Reads Kind.Bits alone (now (frame .entry)) r ⌝ }
-{
-    read_alone(Kind::Bits, frame)
-}
-
-pub fn read_openings(frame: &[u8]) -> Read
-    ensures { λ r. ⌜ Reads Kind.Openings alone (now (frame .entry)) r ⌝ }
-{
-    read_alone(Kind::Openings, frame)
 }

@@ -1,13 +1,13 @@
 // The readers by the number of their kind.
 use frames::read::Read;
-use frames::read::read_bits;
-use frames::read::read_challenges;
-use frames::read::read_commitments;
-use frames::read::read_first_answers;
-use frames::read::read_openings;
-use frames::read::read_public_key;
-use frames::read::read_secret_key;
-use frames::read::read_system;
+use readers::read_bits;
+use readers::read_challenges;
+use readers::read_commitments;
+use readers::read_first_answers;
+use readers::read_openings;
+use readers::read_public_key;
+use readers::read_secret_key;
+use readers::read_system;
 
 // Reads a frame of a kind, 1 to 8.
 pub fn read_kind(kind: u8, frame: &[u8]) -> Read {

@@ -6,11 +6,11 @@ use native.Mathlib.Omega.{arith}
 use Rattle.algebra.specs.Lists.{tab, sumBelow, stretch}
 use Rattle.algebra.specs.Residues.{negative}
 use Rattle.algebra.specs.Permutations.{permute, identity, placeOf, inverse}
-use Rattle.algebra.specs.Matrices.{rowTimes, SystemFits}
-use Rattle.algebra.specs.Solving.{completed}
-use Rattle.algebra.specs.Drawings.{drawLeft, drawBelow, drew, ranOut, exchange, shuffle, drawPermutation}
+use Rattle.matrices.specs.Matrices.{rowTimes, SystemFits}
+use Rattle.matrices.specs.Solving.{completed}
+use Rattle.random.specs.Drawings.{drawLeft, drawBelow, drew, ranOut, exchange, shuffle, drawPermutation}
 use Rattle.writers.specs.Writing.{frame}
-use Rattle.draw.specs.Sequences.{manyTimes, oneBelow}
+use Rattle.random.specs.Sequences.{manyTimes, oneBelow}
 use Rattle.key_making.specs.Key.{publicKey, keyFrames, drawPair, drawKey, keySize}
 
 -- n = 4, m = 2, A' of the rows (1, 2) and (3, 4): π = (0, 3, 1, 2), and X = (5, 6, -17, -39)

@@ -9,13 +9,13 @@ use lib.Seq.{take-at, drop-at}
 use Rattle.algebra.specs.Lists.{over}
 use Rattle.algebra.specs.Residues.{modulus, Residues}
 use Rattle.algebra.specs.Permutations.{longest, IsPerm}
-use Rattle.algebra.specs.Drawings.{Drawing, drew, ranOut, drawPermutation, drawnOver, Enough}
-use Rattle.algebra.proofs.Drawings.{Permutes, drawn-perm}
+use Rattle.random.specs.Drawings.{Drawing, drew, ranOut, drawPermutation, drawnOver, Enough}
+use Rattle.random.proofs.Drawings.{Permutes, drawn-perm}
 use Rattle.algebra.proofs.Permutations.{length-permute, length-inverse}
-use Rattle.frames.specs.declared.kind.Kind.the-variants.{Public, Secret}
-use Rattle.frames.specs.Kinds.{alone, fits}
-use Rattle.draw.specs.Sequences.{listOf, made, andThen, drawResidues}
-use Rattle.draw.proofs.Sequences.{Always, some-below}
+use Rattle.kinds.specs.declared.Kind.the-variants.{Public, Secret}
+use Rattle.kinds.specs.Kinds.{alone, fits}
+use Rattle.random.specs.Sequences.{listOf, made, andThen, drawResidues}
+use Rattle.random.proofs.Sequences.{Always, some-below}
 use Rattle.key_making.specs.Key.{publicKey, drawPair}
 
 -- the list drawn, where the bytes suffice

@@ -5,13 +5,13 @@ use Prim.Native.Nat.{ℕ}
 use native.Mathlib.Omega.{arith}
 use lib.ListN.{take, drop, take-append-drop}
 use Rattle.algebra.specs.Residues.{modulus}
-use Rattle.algebra.specs.Matrices.{keyFault, SystemFits}
-use Rattle.algebra.specs.Drawings.{drew}
-use Rattle.algebra.proofs.Solving.{solved, residues-solved}
-use Rattle.frames.specs.declared.kind.Kind.the-variants.{Public, Secret}
-use Rattle.frames.proofs.Passing.{residues-pass, permutation-passes}
+use Rattle.matrices.specs.Matrices.{keyFault, SystemFits}
+use Rattle.random.specs.Drawings.{drew}
+use Rattle.matrices.proofs.Solving.{solved, residues-solved}
+use Rattle.kinds.specs.declared.Kind.the-variants.{Public, Secret}
+use Rattle.readers.proofs.Passing.{residues-pass, permutation-passes}
 use Rattle.writers.specs.Writing.{frame}
-use Rattle.draw.proofs.Sequences.{Always}
+use Rattle.random.proofs.Sequences.{Always}
 use Rattle.draw.proofs.Theorems.{source, Accepted, accepted}
 use Rattle.key_making.specs.Key.{publicKey, keyFrames, drawPair, drawKey}
 use Rattle.key_making.proofs.Making.{DrawnPair, pair-drawn, length-publicKey, place-fits}

@@ -4,13 +4,13 @@ use Prim.Native.Nat.{ℕ, _+_, _-_}
 use lib.ListN.{take, drop}
 use Rattle.algebra.specs.Residues.{modulus}
 use Rattle.algebra.specs.Permutations.{unpermute}
-use Rattle.algebra.specs.Solving.{completed}
-use Rattle.algebra.specs.Drawings.{Drawing, drawPermutation}
-use Rattle.frames.specs.declared.kind.Kind.the-variants.{System, Public, Secret}
-use Rattle.frames.specs.Kinds.{frameSize}
+use Rattle.matrices.specs.Solving.{completed}
+use Rattle.random.specs.Drawings.{Drawing, drawPermutation}
+use Rattle.kinds.specs.declared.Kind.the-variants.{System, Public, Secret}
+use Rattle.kinds.specs.Kinds.{frameSize}
 use Rattle.frames.specs.Reading.{firstOf, secondOf, restOf}
 use Rattle.writers.specs.Writing.{frame}
-use Rattle.draw.specs.Sequences.{made, andThen, drawResidues}
+use Rattle.random.specs.Sequences.{made, andThen, drawResidues}
 
 -- V[π[j]] = X[j], where X starts with `start` and A X is zero
 unfoldable pub publicKey : List ℕ → ℕ → ℕ → List ℕ → List ℕ → List ℕ

@@ -1,7 +1,7 @@
 // The session record as 68 bytes, for programs that keep it as such.
 use algebra::output::copy_at;
 use algebra::output::copy_into;
-use card_checks::session::Session;
+use card_rules::session::Session;
 use hosting::bytes::byte_of;
 ghost use mathlib.Core.Path.{_≡_};
 ghost use lib.ListN.{length};

@@ -16,11 +16,11 @@ use Rattle.refusals.specs.Number.{PERM, WEAK}
 use Rattle.refusals.specs.Buffer.{NONE, OPENINGS}
 use Rattle.refusals.specs.Told.{Told, done, refused, fine, first, demand}
 use Rattle.refusals.proofs.Chain.{Passed, first-done, first-refused, demand-done, UpTo, done-most, demand-most, first-most}
-use Rattle.frames.specs.declared.kind.Kind.the-variants.{System, Public, Commitments, Challenges, Answers, Bits, Openings}
-use Rattle.frames.specs.Kinds.{alone, ofPlaces, exactly}
+use Rattle.kinds.specs.declared.Kind.the-variants.{System, Public, Commitments, Challenges, Answers, Bits, Openings}
+use Rattle.kinds.specs.Kinds.{alone, ofPlaces, exactly}
 use Rattle.frames.specs.Reading.{reading}
 use Rattle.frames.proofs.Facts.{fits-read, test-holds, rest-done}
-use Rattle.frames.proofs.Outcomes.{reading-most}
+use Rattle.readers.proofs.Outcomes.{reading-most}
 use Rattle.rounds.proofs.Runs.{failing-found, all-pass}
 use Rattle.register.specs.declared.Verdict.{Verdict}
 use Rattle.register.specs.declared.Verdict.the-variants.{Accepted, Refused}

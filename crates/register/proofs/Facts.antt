@@ -9,16 +9,16 @@ use Rattle.refusals.specs.Told.{Told, done, fine, first}
 use Rattle.refusals.proofs.Chain.{first-done}
 use Rattle.algebra.specs.Lists.{stretch}
 use Rattle.algebra.specs.Permutations.{longest, IsPerm}
-use Rattle.algebra.specs.Matrices.{SystemFits}
-use Rattle.frames.specs.declared.kind.Kind.the-variants.{System, Public, Commitments, Challenges, Answers, Bits, Openings}
-use Rattle.frames.specs.Kinds.{alone, ofPlaces, exactly}
+use Rattle.matrices.specs.Matrices.{SystemFits}
+use Rattle.kinds.specs.declared.Kind.the-variants.{System, Public, Commitments, Challenges, Answers, Bits, Openings}
+use Rattle.kinds.specs.Kinds.{alone, ofPlaces, exactly}
 use Rattle.frames.specs.Reading.{firstOf, secondOf, restOf, reading}
 use Rattle.packed_bits.specs.PackedBits.{bitAt}
 use Rattle.frames.proofs.Facts.{FrameFits, reading-told, first-within, first-asked, second-asked, rest-length}
 use Rattle.frames.proofs.Orders.{from, rest-part}
-use Rattle.frames.proofs.Passing.{system-fits}
-use Rattle.frames.proofs.Chosen.{values-told, permutations-told}
-use Rattle.round.specs.Round.{systemOf}
+use Rattle.readers.proofs.Passing.{system-fits}
+use Rattle.readers.proofs.Chosen.{values-told, permutations-told}
+use Rattle.scheme.specs.Round.{systemOf}
 use Rattle.rounds.specs.Layout.{Messages, messages, MessagesFit}
 use Rattle.rounds.specs.Rounds.{firstFailing}
 use Rattle.rounds.proofs.Runs.{failing-found}

@@ -10,10 +10,10 @@ use Rattle.refusals.specs.Number.{WEAK, SECOND}
 use Rattle.refusals.specs.Buffer.{NONE, OPENINGS}
 use Rattle.refusals.specs.Told.{Told, done, refused, fine, first, demand}
 use Rattle.refusals.proofs.Chain.{UpTo, first-done, done-most, first-most, test-most}
-use Rattle.frames.specs.declared.kind.Kind.the-variants.{System, Public, Commitments, Challenges, Answers, Bits, Openings}
-use Rattle.frames.specs.Kinds.{alone, ofPlaces, exactly}
+use Rattle.kinds.specs.declared.Kind.the-variants.{System, Public, Commitments, Challenges, Answers, Bits, Openings}
+use Rattle.kinds.specs.Kinds.{alone, ofPlaces, exactly}
 use Rattle.frames.specs.Reading.{reading}
-use Rattle.frames.proofs.Outcomes.{frame-most}
+use Rattle.readers.proofs.Outcomes.{frame-most}
 use Rattle.register.specs.declared.Verdict.{Verdict}
 use Rattle.register.specs.declared.Verdict.the-variants.{Accepted, Refused}
 use Rattle.register.specs.Verdict.{SignOn, placesIn, roundsIn, basisCheck, exchangeCheck, framesCheck, enough, bitIn, roundsPassed, numberOf, roundsCheck, judging, verdictMeans, Judges}

@@ -8,12 +8,12 @@ use lib.ListN.{length}
 use Rattle.refusals.specs.Number.{WEAK, FIRST, SECOND}
 use Rattle.refusals.specs.Buffer.{NONE, OPENINGS}
 use Rattle.refusals.specs.Told.{Told, done, refused, told, fine, first, demand}
-use Rattle.algebra.specs.Matrices.{SystemFits}
-use Rattle.frames.specs.declared.kind.Kind.the-variants.{System, Public, Commitments, Challenges, Answers, Bits, Openings}
-use Rattle.frames.specs.Kinds.{alone, ofPlaces, exactly}
+use Rattle.matrices.specs.Matrices.{SystemFits}
+use Rattle.kinds.specs.declared.Kind.the-variants.{System, Public, Commitments, Challenges, Answers, Bits, Openings}
+use Rattle.kinds.specs.Kinds.{alone, ofPlaces, exactly}
 use Rattle.frames.specs.Reading.{firstOf, secondOf, restOf, reading}
 use Rattle.packed_bits.specs.PackedBits.{bitAt}
-use Rattle.round.specs.Round.{System as SystemOf, systemOf}
+use Rattle.scheme.specs.Round.{System as SystemOf, systemOf}
 use Rattle.rounds.specs.Layout.{Messages, messages, MessagesFit}
 use Rattle.rounds.specs.Rounds.{passesAt, firstFailing}
 use Rattle.register.specs.declared.Verdict.{Verdict}

@@ -1,11 +1,11 @@
 // The frames of a sign-on, in order.
-use frames::kind::Kind;
-use frames::kind::exactly;
-use frames::kind::of_places;
 use frames::read::Read;
 use frames::read::read_frame;
-use frames::read::read_system;
 use frames::wide;
+use kinds::Kind;
+use kinds::exactly;
+use kinds::of_places;
+use readers::read_system;
 use refusals::Checked;
 ghost use mathlib.Core.Path.{_≡_};
 ghost use Prim.Native.Nat.{_≤_};

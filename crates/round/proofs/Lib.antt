@@ -1,5 +1,2 @@
--- The laws of a round, the pairing, and examples.
-pub mod Laws
-pub mod Pairing
+-- Laws for the code of a round.
 pub mod Rooms
-pub mod Examples

@@ -1,20 +1,20 @@
 // The card's part of a round: both commitments, the first answer, the opening.
 use crate::hashing::hash_two;
 use algebra::LONGEST;
-use algebra::matrix::product_into;
 use algebra::output::copy_into;
 use algebra::permutation::compose_into;
 use algebra::permutation::permute_into;
 use algebra::residue::add_scaled_into;
+use matrices::product_into;
 ghost use mathlib.Core.Path.{_≡_};
 ghost use Prim.Native.Nat.{_≤_};
 ghost use lib.ListN.{length};
 ghost use Rattle.algebra.specs.Lists.{over};
 ghost use Rattle.algebra.specs.Residues.{modulus};
 ghost use Rattle.algebra.specs.Permutations.{longest, IsPerm, permute, compose};
-ghost use Rattle.algebra.specs.Matrices.{SystemFits};
+ghost use Rattle.matrices.specs.Matrices.{SystemFits};
 ghost use Rattle.sha256.specs.Standard.{digestOf};
-ghost use Rattle.round.specs.Round.{systemOf, pair, committed0, committed1, firstAnswer, opening};
+ghost use Rattle.scheme.specs.Round.{systemOf, pair, committed0, committed1, firstAnswer, opening};
 
 // As commitment_zero, with room for A R.
 fn commitment_zero_with(

@@ -1,10 +1,10 @@
 // The register's part of a round: what its commitment is called to be, and whether it passes.
 use crate::hashing::hash_two;
 use algebra::LONGEST;
-use algebra::matrix::product_into;
 use algebra::permutation::permute_into;
 use algebra::permutation::unpermute_into;
 use algebra::residue::sub_scaled_into;
+use matrices::product_into;
 ghost use mathlib.Core.Path.{_≡_};
 ghost use mathlib.Core.Bool.{true, false};
 ghost use mathlib.Core.List.{_++_};
@@ -12,10 +12,10 @@ ghost use Prim.Native.Nat.{_≤_, _<_};
 ghost use lib.ListN.{length};
 ghost use Rattle.algebra.specs.Residues.{modulus, subScaled};
 ghost use Rattle.algebra.specs.Permutations.{longest, IsPerm, permute};
-ghost use Rattle.algebra.specs.Matrices.{productAt, SystemFits};
+ghost use Rattle.matrices.specs.Matrices.{productAt, SystemFits};
 ghost use Rattle.sha256.specs.Standard.{digestOf};
 ghost use Rattle.algebra.specs.Lists.{sameBytes};
-ghost use Rattle.round.specs.Round.{systemOf, calledFor, opened, passes};
+ghost use Rattle.scheme.specs.Round.{systemOf, calledFor, opened, passes};
 
 // As called_zero, with room for the U with U[sigma[j]] = W[j] and for A U.
 fn called_zero_with(

@@ -12,9 +12,9 @@ ghost use lib.ListN.{length};
 ghost use Rattle.algebra.specs.Lists.{over};
 ghost use Rattle.algebra.specs.Residues.{modulus};
 ghost use Rattle.algebra.specs.Permutations.{longest, IsPerm};
-ghost use Rattle.algebra.specs.Matrices.{SystemFits};
+ghost use Rattle.matrices.specs.Matrices.{SystemFits};
 ghost use Rattle.sha256.specs.Standard.{digestOf};
-ghost use Rattle.round.specs.Round.{systemOf, pair, standInCommitted, standInAnswer};
+ghost use Rattle.scheme.specs.Round.{systemOf, pair, standInCommitted, standInAnswer};
 
 // The commitment that passes for bit 0, the hash of theta and U for bit 1.
 pub fn stand_in_commitment(

@@ -9,7 +9,7 @@ use lib.Seq.{take-take, take-add, drop-at, drop-drop, take-append-add, drop-appe
 use Rattle.algebra.specs.Lists.{stretch, over, overAt}
 use Rattle.algebra.specs.Permutations.{IsPerm}
 use Rattle.algebra.proofs.Lists.{over-behind}
-use Rattle.frames.specs.Choosing.{choiceOf, vectorOf, permutationOf}
+use Rattle.readers.specs.Choosing.{choiceOf, vectorOf, permutationOf}
 use Rattle.rounds.specs.Layout.{half, halfStart}
 
 -- a permutation of n is one of its own places

@@ -7,8 +7,8 @@ use Rattle.algebra.specs.Lists.{tab, stretch, joined}
 use Rattle.algebra.specs.Residues.{addScaled}
 use Rattle.algebra.specs.Permutations.{permute}
 use Rattle.packed_bits.specs.PackedBits.{bitAt}
-use Rattle.frames.specs.Choosing.{vectorOf, permutationOf}
-use Rattle.round.specs.Round.{pair, opened, firstAnswer, opening}
+use Rattle.readers.specs.Choosing.{vectorOf, permutationOf}
+use Rattle.scheme.specs.Round.{pair, opened, firstAnswer, opening}
 use Rattle.rounds.specs.Layout.{pairAt, messages, half, halfStart, challengeAt, openedAt}
 use Rattle.rounds.specs.Rounds.{answerAt, openingAt}
 

@@ -17,8 +17,8 @@ use Rattle.algebra.proofs.Vectors.{length-addScaled, residues-addScaled}
 use Rattle.sha256.specs.Standard.{digestOf}
 use Rattle.sha256.proofs.Digest.{digest-length}
 use Rattle.packed_bits.specs.PackedBits.{bitAt}
-use Rattle.round.specs.Round.{System, Sound, ValidKey, Pair, committed0, committed1, firstAnswer, opening, honest, opened, commitmentOf, openedOf, passes}
-use Rattle.round.proofs.Laws.{length-under, honest-passes}
+use Rattle.scheme.specs.Round.{System, Sound, ValidKey, Pair, committed0, committed1, firstAnswer, opening, honest, opened, commitmentOf, openedOf, passes}
+use Rattle.scheme.proofs.Laws.{length-under, honest-passes}
 use Rattle.rounds.specs.Layout.{pairAt, AllWell, Messages, half, openedAt}
 use Rattle.rounds.specs.Rounds.{commitmentsAt, answerAt, openingAt, honestRun, passesAt, failsAt, firstFailing}
 

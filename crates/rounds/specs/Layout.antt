@@ -8,8 +8,8 @@ use Rattle.algebra.specs.Lists.{stretch}
 use Rattle.algebra.specs.Residues.{modulus, Residues}
 use Rattle.algebra.specs.Permutations.{longest, IsPerm}
 use Rattle.packed_bits.specs.PackedBits.{bitAt}
-use Rattle.frames.specs.Choosing.{choiceSize, choiceOf, vectorOf, permutationOf}
-use Rattle.round.specs.Round.{System, Pair, pair, WellFormed, Opened, opened}
+use Rattle.readers.specs.Choosing.{choiceSize, choiceOf, vectorOf, permutationOf}
+use Rattle.scheme.specs.Round.{System, Pair, pair, WellFormed, Opened, opened}
 
 -- R and σ of round k
 abbrev pub pairAt : ℕ → List ℕ → ℕ → Pair

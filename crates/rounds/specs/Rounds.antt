@@ -6,7 +6,7 @@ use lib.ListN.{getD}
 use Rattle.algebra.specs.Lists.{joined, firstFrom}
 use Rattle.sha256.specs.Standard.{digestOf}
 use Rattle.packed_bits.specs.PackedBits.{bitAt}
-use Rattle.round.specs.Round.{System, committed0, committed1, firstAnswer, opening, passes}
+use Rattle.scheme.specs.Round.{System, committed0, committed1, firstAnswer, opening, passes}
 use Rattle.rounds.specs.Layout.{pairAt, Messages, challengeAt, openedAt}
 
 -- what round k adds to each message: C0 and C1; W; the opened permutation

@@ -12,8 +12,8 @@ ghost use Prim.Native.Nat.{_+_, _*_, _≤_, _<_};
 ghost use lib.ListN.{length};
 ghost use Rattle.algebra.specs.Lists.{joined, over, overAt};
 ghost use Rattle.algebra.specs.Residues.{modulus};
-ghost use Rattle.algebra.specs.Matrices.{SystemFits};
-ghost use Rattle.round.specs.Round.{systemOf};
+ghost use Rattle.matrices.specs.Matrices.{SystemFits};
+ghost use Rattle.scheme.specs.Round.{systemOf};
 ghost use Rattle.rounds.specs.Layout.{RoundFits, CardFits};
 ghost use Rattle.rounds.specs.Rounds.{commitmentsAt, answerAt, openingAt};
 

@@ -2,7 +2,7 @@
 ghost use mathlib.Core.Path.{_≡_};
 ghost use Prim.Native.Nat.{_+_, _*_, _≤_, _<_};
 ghost use lib.ListN.{length};
-ghost use Rattle.frames.specs.Choosing.{choiceSize};
+ghost use Rattle.readers.specs.Choosing.{choiceSize};
 ghost use Rattle.rounds.specs.Layout.{pairAt, halfStart};
 
 // R of round k.

@@ -5,8 +5,8 @@ use round::register::passes;
 ghost use mathlib.Core.Path.{_≡_};
 ghost use Prim.Native.Nat.{_<_};
 ghost use lib.ListN.{length};
-ghost use Rattle.algebra.specs.Matrices.{SystemFits};
-ghost use Rattle.round.specs.Round.{systemOf};
+ghost use Rattle.matrices.specs.Matrices.{SystemFits};
+ghost use Rattle.scheme.specs.Round.{systemOf};
 ghost use Rattle.rounds.specs.Layout.{messages, MessagesFit};
 ghost use Rattle.rounds.specs.Rounds.{passesAt, firstFailing};
 

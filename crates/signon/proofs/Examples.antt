@@ -10,8 +10,8 @@ use Rattle.algebra.specs.Lists.{allBelow, count, stretch}
 use Rattle.algebra.specs.Permutations.{isPerm}
 use Rattle.sha256.specs.Call.{LONGEST, toldOf}
 use Rattle.sha256.proofs.Call.{told-long}
-use Rattle.frames.specs.declared.kind.Kind.the-variants.{System, Public, Challenges}
-use Rattle.frames.specs.Kinds.{alone}
+use Rattle.kinds.specs.declared.Kind.the-variants.{System, Public, Challenges}
+use Rattle.kinds.specs.Kinds.{alone}
 use Rattle.frames.specs.Reading.{header, shape, values, permutations, reading, openingCheck}
 use Rattle.signon.specs.declared.Answer.{Answer}
 use Rattle.signon.specs.Answers.{answerOf}

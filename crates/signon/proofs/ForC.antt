@@ -8,8 +8,8 @@ use Rattle.refusals.specs.Number.{DRAW}
 use Rattle.refusals.specs.Told.{Told, done, told}
 use Rattle.refusals.proofs.Chain.{UpTo}
 use Rattle.algebra.specs.Lists.{over}
-use Rattle.algebra.specs.Drawings.{Drawing, usedBy, drawnOver}
-use Rattle.frames.specs.declared.kind.Kind.{Kind}
+use Rattle.random.specs.Drawings.{Drawing, usedBy, drawnOver}
+use Rattle.kinds.specs.declared.Kind.{Kind}
 use Rattle.writers.specs.declared.Written.{Written}
 use Rattle.writers.specs.declared.Written.the-variants.{Wrote, Refused}
 use Rattle.writers.specs.Writing.{writtenMeans, outAfter, Writes}
@@ -17,10 +17,10 @@ use Rattle.draw.specs.declared.Taken.{Taken}
 use Rattle.draw.specs.declared.Taken.the-variants.{Bytes, Refused as NotTaken}
 use Rattle.draw.specs.Telling.{takenMeans, drawnAfter, Draws}
 use Rattle.stand_in.specs.Standing.{StandsIn}
-use Rattle.card_checks.specs.declared.session.Session.{Session}
-use Rattle.card_checks.specs.Keys.{Keys}
-use Rattle.card.specs.declared.Step.{Step}
-use Rattle.card.specs.Steps.{unlessRefused, BeginStep, AnswerStep, OpenStep}
+use Rattle.card_rules.specs.declared.session.Session.{Session}
+use Rattle.card_rules.specs.Keys.{Keys}
+use Rattle.card_steps.specs.declared.Step.{Step}
+use Rattle.card_steps.specs.Steps.{unlessRefused, BeginStep, AnswerStep, OpenStep}
 use Rattle.signon.specs.declared.Answer.{Answer}
 use Rattle.signon.specs.Answers.{answerOf, ifDone, Held}
 use Rattle.signon.specs.Card.{BeginForC, AnswerForC, OpenForC}

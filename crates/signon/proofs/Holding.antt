@@ -6,25 +6,25 @@ use native.Mathlib.Omega.{arith}
 use Rattle.refusals.specs.Number.{SHAPE, PERM, ROOM, DRAW, STAGE, SECOND, SELF}
 use Rattle.refusals.specs.Told.{Told, done, fine, first}
 use Rattle.refusals.proofs.Chain.{UpTo, ends-done, done-most, first-most, most-more}
-use Rattle.algebra.specs.declared.draw.Used.{Used}
+use Rattle.random.specs.declared.draw.Used.{Used}
 use Rattle.sha256.specs.Call.{toldOf}
 use Rattle.sha256.proofs.Call.{told-most}
-use Rattle.frames.specs.declared.kind.Kind.{Kind}
-use Rattle.frames.specs.Kinds.{alone, table}
+use Rattle.kinds.specs.declared.Kind.{Kind}
+use Rattle.kinds.specs.Kinds.{alone, table}
 use Rattle.frames.specs.Reading.{firstOf, secondOf, reading, openingCheck}
 use Rattle.writers.specs.Writing.{writing}
 use Rattle.writers.proofs.Outcomes.{room-most, room-one, writing-most, writing-one}
 use Rattle.frames.proofs.Facts.{reading-told, numbers-small}
-use Rattle.frames.proofs.Outcomes.{reading-most, opening-most}
+use Rattle.readers.proofs.Outcomes.{reading-most, opening-most}
 use Rattle.draw.specs.Telling.{telling}
 use Rattle.draw.proofs.Outcomes.{telling-most, telling-one}
 use Rattle.stand_in.specs.Standing.{standing}
 use Rattle.stand_in.proofs.Outcomes.{standing-most, standing-one}
-use Rattle.card_checks.specs.declared.session.Session.{Session}
-use Rattle.card_checks.specs.Keys.{Keys, keyCheck}
-use Rattle.card_checks.proofs.Outcomes.{key-most, key-none}
-use Rattle.card.specs.Steps.{beginTold, answerTold, openTold}
-use Rattle.card.proofs.Outcomes.{begin-told-most, begin-told-one, answer-told-most, answer-told-one, open-told-most, open-told-one}
+use Rattle.card_rules.specs.declared.session.Session.{Session}
+use Rattle.card_rules.specs.Keys.{Keys, keyCheck}
+use Rattle.card_rules.proofs.Outcomes.{key-most, key-none}
+use Rattle.card_steps.specs.Steps.{beginTold, answerTold, openTold}
+use Rattle.card_steps.proofs.Outcomes.{begin-told-most, begin-told-one, answer-told-most, answer-told-one, open-told-most, open-told-one}
 use Rattle.register.specs.Verdict.{SignOn, judging}
 use Rattle.register.proofs.Outcomes.{judging-most, judging-one}
 use Rattle.signon.specs.Answers.{valueOf, Held}

@@ -6,14 +6,14 @@ use native.Mathlib.Omega.{arith}
 use lib.ListN.{length, getD}
 use Rattle.refusals.specs.declared.Refusal.{Refusal}
 use Rattle.refusals.specs.Told.{done, fine, told}
-use Rattle.frames.specs.declared.kind.Kind.{Kind}
-use Rattle.frames.specs.declared.kind.Kind.the-variants.{Openings}
+use Rattle.kinds.specs.declared.Kind.{Kind}
+use Rattle.kinds.specs.declared.Kind.the-variants.{Openings}
 use Rattle.frames.specs.declared.read.Read.{Read}
 use Rattle.frames.specs.declared.read.Read.the-variants.{Frame}
-use Rattle.frames.specs.Kinds.{alone, table}
+use Rattle.kinds.specs.Kinds.{alone, table}
 use Rattle.frames.specs.Reading.{firstOf, secondOf, reading, readMeans, Reads, openingCheck}
 use Rattle.frames.proofs.Facts.{reading-told}
-use Rattle.frames.proofs.OpeningLaws.{opening-told, opening-ends}
+use Rattle.readers.proofs.OpeningLaws.{opening-told, opening-ends}
 use Rattle.signon.specs.Calls.{openingTold}
 use Rattle.signon.proofs.Holding.{numbers-read}
 

@@ -6,10 +6,10 @@ use native.Mathlib.Omega.{arith}
 use lib.ListN.{take, drop}
 use Rattle.refusals.specs.Told.{Told, fine}
 use Rattle.frames.specs.Reading.{firstOf, openingCheck, openingOf}
-use Rattle.frames.proofs.OpeningLaws.{opening-cut}
-use Rattle.card_checks.specs.declared.session.Session.{Session}
-use Rattle.card_checks.specs.Keys.{Keys}
-use Rattle.card.proofs.Outcomes.{one-give-up}
+use Rattle.readers.proofs.OpeningLaws.{opening-cut}
+use Rattle.card_rules.specs.declared.session.Session.{Session}
+use Rattle.card_rules.specs.Keys.{Keys}
+use Rattle.card_steps.proofs.Outcomes.{one-give-up}
 use Rattle.signon.specs.declared.Answer.{Answer}
 use Rattle.signon.specs.Answers.{ifDone}
 use Rattle.signon.specs.Card.{BeginForC, AnswerForC, OpenForC, GiveUpForC}

@@ -8,12 +8,12 @@ use Rattle.refusals.specs.Number.{ROOM}
 use Rattle.refusals.specs.Buffer.{OUTPUT}
 use Rattle.refusals.specs.Told.{Told, done, first, demand}
 use Rattle.algebra.specs.Lists.{over}
-use Rattle.algebra.specs.Drawings.{Drawing, usedBy, drawnOver}
+use Rattle.random.specs.Drawings.{Drawing, usedBy, drawnOver}
 use Rattle.sha256.specs.Standard.{digestOf}
 use Rattle.sha256.specs.Call.{toldOf}
-use Rattle.frames.specs.declared.kind.Kind.{Kind}
-use Rattle.frames.specs.declared.kind.Kind.the-variants.{Openings}
-use Rattle.frames.specs.Kinds.{alone, table}
+use Rattle.kinds.specs.declared.Kind.{Kind}
+use Rattle.kinds.specs.declared.Kind.the-variants.{Openings}
+use Rattle.kinds.specs.Kinds.{alone, table}
 use Rattle.frames.specs.Reading.{firstOf, reading, openingCheck}
 use Rattle.writers.specs.Writing.{frame, writing}
 use Rattle.draw.specs.Telling.{telling}

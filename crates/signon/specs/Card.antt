@@ -5,12 +5,12 @@ use Prim.Native.Nat.{ℕ}
 use lib.ListN.{length}
 use Rattle.refusals.specs.Told.{fine}
 use Rattle.algebra.specs.Lists.{over}
-use Rattle.frames.specs.declared.kind.Kind.the-variants.{Commitments, Challenges, Answers, Openings}
+use Rattle.kinds.specs.declared.Kind.the-variants.{Commitments, Challenges, Answers, Openings}
 use Rattle.frames.specs.Reading.{restOf}
 use Rattle.writers.specs.Writing.{frame}
-use Rattle.card_checks.specs.declared.session.Session.{Session}
-use Rattle.card_checks.specs.Keys.{Keys, placesOf}
-use Rattle.card.specs.Steps.{beginTold, begun, commitmentsOf, answerTold, answered, answersOf, openTold, closed, openingsOf, zeroed, GiveUpStep}
+use Rattle.card_rules.specs.declared.session.Session.{Session}
+use Rattle.card_rules.specs.Keys.{Keys, placesOf}
+use Rattle.card_steps.specs.Steps.{beginTold, begun, commitmentsOf, answerTold, answered, answersOf, openTold, closed, openingsOf, zeroed, GiveUpStep}
 use Rattle.signon.specs.declared.Answer.{Answer}
 use Rattle.signon.specs.Answers.{answerOf, ifDone}
 

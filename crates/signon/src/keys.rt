@@ -3,13 +3,13 @@ use crate::Answer;
 use crate::answers::of_check;
 use crate::answers::of_drawing;
 use card_checks::key::check_key;
-use frames::kind::Kind;
 use key_making::make_key;
+use kinds::Kind;
 ghost use mathlib.Core.Path.{_≡_};
-ghost use Rattle.frames.specs.Kinds.{alone};
+ghost use Rattle.kinds.specs.Kinds.{alone};
 ghost use Rattle.frames.specs.Reading.{firstOf, reading};
 ghost use Rattle.key_making.specs.Key.{drawKeyFor, keySize};
-ghost use Rattle.card_checks.specs.Keys.{keys, keyCheck};
+ghost use Rattle.card_rules.specs.Keys.{keys, keyCheck};
 ghost use Rattle.signon.specs.Answers.{answerOf};
 ghost use Rattle.signon.specs.Calls.{DrawForC};
 

@@ -2,13 +2,13 @@
 use crate::Answer;
 use crate::answers::refusal;
 use crate::answers::success;
-use frames::kind::Kind;
-use frames::kind::alone;
-use frames::kind::start_of;
-use frames::opening::check_opening;
 use frames::read::Read;
 use frames::read::read_frame;
 use frames::wide;
+use kinds::Kind;
+use kinds::alone;
+use kinds::start_of;
+use readers::opening::check_opening;
 use refusals::Checked;
 ghost use mathlib.Core.Path.{_≡_};
 ghost use Rattle.signon.specs.Answers.{answerOf};

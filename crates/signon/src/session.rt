@@ -5,8 +5,8 @@ use crate::steps::answer_for_c;
 use crate::steps::begin_for_c;
 use crate::steps::give_up_for_c;
 use crate::steps::open_for_c;
-use card_checks::session::Session;
-ghost use Rattle.card_checks.specs.Keys.{keys};
+use card_rules::session::Session;
+ghost use Rattle.card_rules.specs.Keys.{keys};
 ghost use Rattle.signon.specs.Card.{BeginForC, AnswerForC, OpenForC, GiveUpForC};
 
 // From idle or closed to committed: all commitments are written.

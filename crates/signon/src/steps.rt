@@ -6,8 +6,8 @@ use card::answer::answer_step;
 use card::begin::begin_step;
 use card::give_up::give_up_step;
 use card::open::open_step;
-use card_checks::session::Session;
-ghost use Rattle.card_checks.specs.Keys.{keys};
+use card_rules::session::Session;
+ghost use Rattle.card_rules.specs.Keys.{keys};
 ghost use Rattle.signon.specs.Card.{BeginForC, AnswerForC, OpenForC, GiveUpForC};
 
 // What a step answers in C, and the next record.

@@ -1,7 +1,7 @@
 // Writers: each answers how many bytes it wrote.
 use crate::Answer;
 use crate::answers::of_writing;
-use frames::kind::Kind;
+use kinds::Kind;
 use writers::write_frame;
 ghost use Rattle.signon.specs.Calls.{WriteForC};
 

@@ -8,7 +8,7 @@ use Rattle.refusals.specs.Told.{Told, done, refused, firstBelow}
 use Rattle.algebra.specs.Lists.{allBelow, count, stretch}
 use Rattle.algebra.specs.Permutations.{isPerm}
 use Rattle.frames.specs.Reading.{header, shape, values, permutations, reading}
-use Rattle.frames.specs.Choosing.{vectorOf, permutationOf, choiceCheck, choicesCheck}
+use Rattle.readers.specs.Choosing.{vectorOf, permutationOf, choiceCheck, choicesCheck}
 use Rattle.stand_in.specs.Standing.{lentCheck, standing}
 
 abbrev system : List ℕ

@@ -14,16 +14,16 @@ use Rattle.refusals.proofs.Chain.{first-done}
 use Rattle.algebra.specs.Lists.{stretch}
 use Rattle.algebra.specs.Residues.{modulus}
 use Rattle.algebra.specs.Permutations.{IsPerm}
-use Rattle.algebra.specs.Matrices.{SystemFits}
-use Rattle.frames.specs.declared.kind.Kind.the-variants.{System, Public}
-use Rattle.frames.specs.Kinds.{alone, ofPlaces}
+use Rattle.matrices.specs.Matrices.{SystemFits}
+use Rattle.kinds.specs.declared.Kind.the-variants.{System, Public}
+use Rattle.kinds.specs.Kinds.{alone, ofPlaces}
 use Rattle.frames.specs.Reading.{firstOf, secondOf, restOf, reading}
-use Rattle.frames.specs.Choosing.{vectorOf, permutationOf, choicesCheck}
+use Rattle.readers.specs.Choosing.{vectorOf, permutationOf, choicesCheck}
 use Rattle.frames.proofs.Facts.{test-holds, rest-done, rest-length, FrameFits, reading-told, fits-read, first-asked}
 use Rattle.frames.proofs.Orders.{from, rest-part}
-use Rattle.frames.proofs.Passing.{Chosen, choice-parts, choices-pass, system-fits}
-use Rattle.frames.proofs.Chosen.{Choice, choices-told, first-stretch}
-use Rattle.round.specs.Round.{systemOf, Pair, pair, WellFormed, standIn}
+use Rattle.readers.proofs.Passing.{Chosen, choice-parts, choices-pass, system-fits}
+use Rattle.readers.proofs.Chosen.{Choice, choices-told, first-stretch}
+use Rattle.scheme.specs.Round.{systemOf, Pair, pair, WellFormed, standIn}
 use Rattle.stand_in.specs.Standing.{lentCheck, standInOf}
 
 -- the choices of one round

@@ -13,8 +13,8 @@ use Rattle.algebra.proofs.Lists.{part-over, over-behind}
 use Rattle.algebra.proofs.Vectors.{length-addScaled}
 use Rattle.sha256.specs.Standard.{digestOf}
 use Rattle.sha256.proofs.Digest.{digest-length}
-use Rattle.round.specs.Round.{System, Pair, pair, standInCommitted, standInAnswer, standIn}
-use Rattle.round.proofs.Laws.{length-under}
+use Rattle.scheme.specs.Round.{System, Pair, pair, standInCommitted, standInAnswer, standIn}
+use Rattle.scheme.proofs.Laws.{length-under}
 use Rattle.stand_in.specs.Standing.{roundSize, roundBytes}
 
 -- W has n residues

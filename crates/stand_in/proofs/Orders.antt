@@ -10,12 +10,12 @@ use Rattle.refusals.specs.Number.{SHAPE, ROOM}
 use Rattle.refusals.specs.Buffer.{NONE, OUTPUT}
 use Rattle.refusals.specs.Told.{Told, done, refused, told, first, demand}
 use Rattle.algebra.specs.Residues.{modulus}
-use Rattle.frames.specs.declared.kind.Kind.the-variants.{System, Public}
+use Rattle.kinds.specs.declared.Kind.the-variants.{System, Public}
 use Rattle.frames.specs.declared.read.Read.{Read}
 use Rattle.frames.specs.declared.read.Read.the-variants.{Frame, Refused}
-use Rattle.frames.specs.Kinds.{alone, ofPlaces}
+use Rattle.kinds.specs.Kinds.{alone, ofPlaces}
 use Rattle.frames.specs.Reading.{firstOf, Reads}
-use Rattle.frames.specs.Choosing.{choicesCheck}
+use Rattle.readers.specs.Choosing.{choicesCheck}
 use Rattle.frames.proofs.Orders.{frame-goes-on, frame-stops}
 use Rattle.stand_in.specs.Standing.{lentCheck, roundSize}
 

@@ -14,17 +14,17 @@ use Rattle.refusals.specs.Buffer.{NONE, OUTPUT}
 use Rattle.refusals.specs.Told.{Told, done, fine, first, demand}
 use Rattle.refusals.proofs.Chain.{Passed, UpTo, first-done, test-most, most-more}
 use Rattle.algebra.specs.Residues.{modulus}
-use Rattle.frames.specs.declared.kind.Kind.the-variants.{System, Public}
+use Rattle.kinds.specs.declared.Kind.the-variants.{System, Public}
 use Rattle.writers.specs.declared.Written.{Written}
 use Rattle.writers.specs.declared.Written.the-variants.{Wrote, Refused}
-use Rattle.frames.specs.Kinds.{alone, ofPlaces}
+use Rattle.kinds.specs.Kinds.{alone, ofPlaces}
 use Rattle.frames.specs.Reading.{firstOf, secondOf, restOf, reading}
-use Rattle.frames.specs.Choosing.{choicesCheck}
-use Rattle.frames.proofs.Outcomes.{frame-most, choices-most}
+use Rattle.readers.specs.Choosing.{choicesCheck}
+use Rattle.readers.proofs.Outcomes.{frame-most, choices-most}
 use Rattle.writers.specs.Writing.{outAfter}
 use Rattle.writers.proofs.Outcomes.{written-fixes, room-most, room-one}
-use Rattle.round.specs.Round.{systemOf, passes}
-use Rattle.round.proofs.Laws.{stand-in-passes}
+use Rattle.scheme.specs.Round.{systemOf, passes}
+use Rattle.scheme.proofs.Laws.{stand-in-passes}
 use Rattle.stand_in.specs.Standing.{lentCheck, roundSize, standing, standInOf, roundBytes, StandsIn}
 use Rattle.stand_in.proofs.Facts.{StandInFits, lent-told}
 use Rattle.stand_in.proofs.Laid.{round-size}

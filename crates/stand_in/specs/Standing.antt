@@ -8,13 +8,13 @@ use Rattle.refusals.specs.Number.{SHAPE, ROOM}
 use Rattle.refusals.specs.Buffer.{NONE, OUTPUT}
 use Rattle.refusals.specs.Told.{Told, done, first, demand}
 use Rattle.algebra.specs.Residues.{modulus}
-use Rattle.frames.specs.declared.kind.Kind.the-variants.{System, Public}
+use Rattle.kinds.specs.declared.Kind.the-variants.{System, Public}
 use Rattle.writers.specs.declared.Written.{Written}
-use Rattle.frames.specs.Kinds.{alone, ofPlaces}
+use Rattle.kinds.specs.Kinds.{alone, ofPlaces}
 use Rattle.frames.specs.Reading.{firstOf, secondOf, restOf, reading}
 use Rattle.writers.specs.Writing.{writtenMeans, outAfter}
-use Rattle.frames.specs.Choosing.{vectorOf, permutationOf, choicesCheck}
-use Rattle.round.specs.Round.{systemOf, pair, Opened, standIn}
+use Rattle.readers.specs.Choosing.{vectorOf, permutationOf, choicesCheck}
+use Rattle.scheme.specs.Round.{systemOf, pair, Opened, standIn}
 
 -- the numbers, then the frames, then the vector and the permutation, lent as one round of choices is
 unfoldable pub lentCheck : ℕ → ℕ → List ℕ → List ℕ → List ℕ → Told

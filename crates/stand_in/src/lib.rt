@@ -2,13 +2,13 @@
 use algebra::MODULUS;
 use algebra::output::copy_at;
 use algebra::output::copy_into;
-use frames::choices::check_choices;
-use frames::kind::Kind;
-use frames::kind::of_places;
 use frames::read::Read;
 use frames::read::read_frame;
-use frames::read::read_system;
 use frames::wide;
+use kinds::Kind;
+use kinds::of_places;
+use readers::choices::check_choices;
+use readers::read_system;
 use refusals::Checked;
 use refusals::Refusal;
 use refusals::buffer::NONE;
@@ -26,8 +26,8 @@ ghost use Rattle.refusals.specs.Told.{means};
 ghost use Rattle.algebra.specs.Lists.{over, overAt};
 ghost use Rattle.algebra.specs.Residues.{modulus};
 ghost use Rattle.algebra.specs.Permutations.{longest, IsPerm};
-ghost use Rattle.algebra.specs.Matrices.{SystemFits};
-ghost use Rattle.round.specs.Round.{systemOf, pair, standInAnswer, standIn};
+ghost use Rattle.matrices.specs.Matrices.{SystemFits};
+ghost use Rattle.scheme.specs.Round.{systemOf, pair, standInAnswer, standIn};
 ghost use Rattle.stand_in.specs.Standing.{lentCheck, roundSize, roundBytes, StandsIn};
 
 // The numbers, the frames, and what is lent.

@@ -1,8 +1,8 @@
 // What refusals, buffers and stages are called.
-use card_checks::session::ANSWERED;
-use card_checks::session::CLOSED;
-use card_checks::session::COMMITTED;
-use card_checks::session::IDLE;
+use card_rules::session::ANSWERED;
+use card_rules::session::CLOSED;
+use card_rules::session::COMMITTED;
+use card_rules::session::IDLE;
 use hosting::text::say;
 use refusals::buffer::ANSWERS;
 use refusals::buffer::BITS;

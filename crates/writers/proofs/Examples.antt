@@ -7,7 +7,7 @@ use Rattle.refusals.specs.Told.{done, refused, firstBelow}
 use Rattle.algebra.specs.Lists.{allBelow, count, stretch}
 use Rattle.algebra.specs.Permutations.{isPerm}
 use Rattle.packed_bits.specs.PackedBits.{bitAt, unusedClear}
-use Rattle.frames.specs.declared.kind.Kind.the-variants.{System, Bits, Openings}
+use Rattle.kinds.specs.declared.Kind.the-variants.{System, Bits, Openings}
 use Rattle.frames.specs.Reading.{values, permutations}
 use Rattle.writers.specs.Writing.{frame, plainCheck, writing}
 

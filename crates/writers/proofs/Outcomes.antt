@@ -10,10 +10,10 @@ use Rattle.refusals.specs.Number.{SHAPE, PERM, ROOM}
 use Rattle.refusals.specs.Buffer.{NONE, OUTPUT}
 use Rattle.refusals.specs.Told.{Told, done, refused, first, demand}
 use Rattle.refusals.proofs.Chain.{UpTo, first-done, ends-done, done-most, demand-most, first-most, test-most, most-more}
-use Rattle.frames.specs.declared.kind.Kind.{Kind}
-use Rattle.frames.specs.Kinds.{alone, table, fits, frameSize}
+use Rattle.kinds.specs.declared.Kind.{Kind}
+use Rattle.kinds.specs.Kinds.{alone, table, fits, frameSize}
 use Rattle.frames.specs.Reading.{spareClear, content}
-use Rattle.frames.proofs.Outcomes.{content-most}
+use Rattle.readers.proofs.Outcomes.{content-most}
 use Rattle.writers.specs.declared.Written.{Written}
 use Rattle.writers.specs.declared.Written.the-variants.{Wrote, Refused}
 use Rattle.writers.specs.Writing.{frame, plainCheck, writing, writtenMeans, outAfter, Writes}

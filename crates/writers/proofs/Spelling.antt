@@ -15,17 +15,17 @@ use Rattle.refusals.specs.Number.{ROOM}
 use Rattle.refusals.specs.Buffer.{OUTPUT}
 use Rattle.refusals.specs.Told.{Told, done, fine, first, demand}
 use Rattle.refusals.proofs.Chain.{Passed, first-done}
-use Rattle.frames.specs.declared.kind.Kind.{Kind}
-use Rattle.frames.specs.declared.kind.Kind.the-variants.{System, Public, Secret, Commitments, Challenges, Answers, Bits, Openings}
-use Rattle.frames.specs.declared.kind.Expected.{Expected}
-use Rattle.frames.specs.Kinds.{alone, table, fits, frameSize}
+use Rattle.kinds.specs.declared.Kind.{Kind}
+use Rattle.kinds.specs.declared.Kind.the-variants.{System, Public, Secret, Commitments, Challenges, Answers, Bits, Openings}
+use Rattle.kinds.specs.declared.Expected.{Expected}
+use Rattle.kinds.specs.Kinds.{alone, table, fits, frameSize}
 use Rattle.packed_bits.specs.PackedBits.{Bytes}
 use Rattle.writers.specs.Values.{cut, valuesOf}
 use Rattle.frames.specs.Reading.{firstOf, secondOf, restOf, spareClear, values, permutations, content, reading}
 use Rattle.writers.specs.Writing.{frame, plainCheck, writing}
 use Rattle.frames.proofs.Facts.{Headed, FrameFits, second-within, rest-length, fits-read}
-use Rattle.frames.proofs.Passing.{residues-pass, permutations-pass}
-use Rattle.frames.proofs.Chosen.{values-told, permutations-told}
+use Rattle.readers.proofs.Passing.{residues-pass, permutations-pass}
+use Rattle.readers.proofs.Chosen.{values-told, permutations-told}
 use Rattle.writers.proofs.Writing.{starts, Plain, plain-told}
 use Rattle.packed_bits.proofs.PackedBits.{same-bits}
 

@@ -18,9 +18,9 @@ use Rattle.refusals.specs.Told.{Told, done, refused, fine, told, means, first, 
 use Rattle.refusals.proofs.Chain.{goes-on, stops, Passed, first-done, demand-done}
 use Rattle.algebra.specs.Lists.{over, overAt}
 use Rattle.algebra.proofs.Lists.{over-behind}
-use Rattle.frames.specs.declared.kind.Kind.{Kind}
-use Rattle.frames.specs.declared.kind.Kind.the-variants.{System, Public, Secret, Commitments, Challenges, Answers, Bits, Openings}
-use Rattle.frames.specs.Kinds.{alone, table, fits, frameSize}
+use Rattle.kinds.specs.declared.Kind.{Kind}
+use Rattle.kinds.specs.declared.Kind.the-variants.{System, Public, Secret, Commitments, Challenges, Answers, Bits, Openings}
+use Rattle.kinds.specs.Kinds.{alone, table, fits, frameSize}
 use Rattle.frames.specs.Reading.{spareClear, content}
 use Rattle.writers.specs.Writing.{heading, frame, plainCheck}
 use Rattle.frames.proofs.Facts.{test-holds, rest-done}

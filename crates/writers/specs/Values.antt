@@ -4,8 +4,8 @@ use mathlib.Core.List.{List, [], _∷_}
 use Prim.Native.Nat.{ℕ, zero, suc, _+_, _-_}
 use lib.ListN.{take, drop}
 use Rattle.algebra.specs.Lists.{tab}
-use Rattle.frames.specs.declared.kind.Kind.{Kind}
-use Rattle.frames.specs.declared.kind.Kind.the-variants.{System, Public, Secret, Commitments, Challenges, Answers, Bits, Openings}
+use Rattle.kinds.specs.declared.Kind.{Kind}
+use Rattle.kinds.specs.declared.Kind.the-variants.{System, Public, Secret, Commitments, Challenges, Answers, Bits, Openings}
 use Rattle.packed_bits.specs.PackedBits.{bitAt}
 
 -- a list cut into pieces of one size

@@ -8,10 +8,10 @@ use Rattle.refusals.specs.Number.{SHAPE, ROOM}
 use Rattle.refusals.specs.Buffer.{NONE, OUTPUT}
 use Rattle.refusals.specs.Told.{Told, done, told, first, demand}
 use Rattle.algebra.specs.Lists.{over}
-use Rattle.frames.specs.declared.kind.Kind.{Kind}
+use Rattle.kinds.specs.declared.Kind.{Kind}
 use Rattle.writers.specs.declared.Written.{Written}
 use Rattle.writers.specs.declared.Written.the-variants.{Wrote, Refused}
-use Rattle.frames.specs.Kinds.{table, fits, alone, frameSize}
+use Rattle.kinds.specs.Kinds.{table, fits, alone, frameSize}
 use Rattle.frames.specs.Reading.{spareClear, content}
 
 -- the count in two bytes, the version, the kind, the first number and, where there are two, the second

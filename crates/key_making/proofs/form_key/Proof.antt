@@ -6,18 +6,18 @@ use native.Mathlib.Omega.{arith}
 use borrow.Author.Needs.{needs}
 use lib.ListN.{length, take, drop}
 use lib.Seq.{length-take-le, take-at, drop-at}
-use Rattle.algebra.specs.Drawings.{Drawing, drawPermutation, drawnOver}
+use Rattle.random.specs.Drawings.{Drawing, drawPermutation, drawnOver}
 use Rattle.algebra.specs.Lists.{over}
 use Rattle.algebra.specs.Permutations.{unpermute}
 use Rattle.algebra.specs.Residues.{modulus, Residues}
-use Rattle.algebra.specs.Solving.{completed}
-use Rattle.algebra.proofs.Drawings.{Permutes, drawn-perm}
+use Rattle.matrices.specs.Solving.{completed}
+use Rattle.random.proofs.Drawings.{Permutes, drawn-perm}
 use Rattle.algebra.proofs.Lists.{front}
-use Rattle.algebra.proofs.Solving.{length-completed}
-use Rattle.frames.specs.Kinds.{fits}
+use Rattle.matrices.proofs.Solving.{length-completed}
+use Rattle.kinds.specs.Kinds.{fits}
 use Rattle.key_making.specs.Key.{publicKey, drawPair}
-use Rattle.draw.specs.Sequences.{listOf, andThen, drawResidues}
-use Rattle.draw.proofs.Sequences.{drew-of, then-drew, enough-first, enough-next, Always, some-below}
+use Rattle.random.specs.Sequences.{listOf, andThen, drawResidues}
+use Rattle.random.proofs.Sequences.{drew-of, then-drew, enough-first, enough-next, Always, some-below}
 use Rattle.key_making.proofs.form_key.Statement.{statement}
 use Rattle.key_making.proofs.form_key.Tie as tie
 

@@ -3,13 +3,13 @@ use mathlib.Core.Path.{_≡_, sym, ap, _∙_}
 use mathlib.Core.List.{[], _∷_}
 use native.Mathlib.Omega.{arith}
 use borrow.Author.Needs.{needs}
-use Rattle.frames.specs.Kinds.{alone}
+use Rattle.kinds.specs.Kinds.{alone}
 use Rattle.frames.specs.Reading.{firstOf, secondOf, readMeans}
 use Rattle.frames.proofs.Facts.{reading-told}
 use Rattle.frames.proofs.Orders.{rest-part}
 use Rattle.draw.proofs.Orders.{bad-frame, past-frame}
-use Rattle.frames.proofs.Passing.{system-fits}
-use Rattle.frames.specs.declared.kind.Kind.the-variants.{System}
+use Rattle.readers.proofs.Passing.{system-fits}
+use Rattle.kinds.specs.declared.Kind.the-variants.{System}
 use Rattle.key_making.proofs.make_key.Statement.{statement}
 use Rattle.key_making.proofs.make_key.Tie as tie
 

@@ -2,10 +2,10 @@
 use mathlib.Core.Path.{sym, _∙_}
 use Prim.Native.Nat.{_-_}
 use borrow.Author.Needs.{needs}
-use Rattle.algebra.specs.Drawings.{drawPermutation}
+use Rattle.random.specs.Drawings.{drawPermutation}
 use Rattle.key_making.specs.Key.{drawPair}
-use Rattle.draw.specs.Sequences.{drawResidues}
-use Rattle.draw.proofs.Sequences.{then-used, then-short}
+use Rattle.random.specs.Sequences.{drawResidues}
+use Rattle.random.proofs.Sequences.{then-used, then-short}
 use Rattle.key_making.proofs.measure_pair.Statement.{statement}
 use Rattle.key_making.proofs.measure_pair.Tie as tie
 

@@ -6,8 +6,8 @@ use lib.ListN.{length}
 use Rattle.writers.specs.Writing.{frame}
 use Rattle.writers.proofs.Spelling.{frame-spells}
 use Rattle.key_making.proofs.Making.{place-fits}
-use Rattle.draw.proofs.Sequences.{behind}
-use Rattle.frames.specs.declared.kind.Kind.the-variants.{Public, Secret}
+use Rattle.random.proofs.Sequences.{behind}
+use Rattle.kinds.specs.declared.Kind.the-variants.{Public, Secret}
 use Rattle.key_making.proofs.put_key.Statement.{statement}
 use Rattle.key_making.proofs.put_key.Tie as tie
 

@@ -8,12 +8,12 @@ use lib.ListN.{take, drop}
 use lib.Seq.{length-take-le}
 use Rattle.algebra.specs.Lists.{over}
 use Rattle.algebra.proofs.Lists.{front}
-use Rattle.frames.specs.Kinds.{fits}
+use Rattle.kinds.specs.Kinds.{fits}
 use Rattle.writers.specs.Writing.{frame}
 use Rattle.key_making.specs.Key.{keyFrames, drawPair, drawKey}
-use Rattle.draw.specs.Sequences.{listOf}
+use Rattle.random.specs.Sequences.{listOf}
 use Rattle.key_making.proofs.Making.{DrawnPair, pair-drawn, length-publicKey, listed, made-over}
-use Rattle.frames.specs.declared.kind.Kind.the-variants.{Public, Secret}
+use Rattle.kinds.specs.declared.Kind.the-variants.{Public, Secret}
 use Rattle.key_making.proofs.write_key_with.Statement.{statement}
 use Rattle.key_making.proofs.write_key_with.Tie as tie
 

@@ -4,12 +4,12 @@ use Prim.Native.Nat.{_≤_}
 use native.Mathlib.Omega.{arith}
 use borrow.Author.Needs.{needs}
 use Rattle.algebra.specs.Permutations.{longest}
-use Rattle.frames.specs.Kinds.{alone, ofPlaces}
+use Rattle.kinds.specs.Kinds.{alone, ofPlaces}
 use Rattle.frames.specs.Reading.{firstOf, Reads}
 use Rattle.frames.proofs.Facts.{FrameFits, frame-fits}
-use Rattle.frames.proofs.Passing.{system-fits}
+use Rattle.readers.proofs.Passing.{system-fits}
 use Rattle.stand_in.proofs.Orders.{bad-challenge, bad-bit, bad-system, bad-key, choices-decide}
-use Rattle.frames.specs.declared.kind.Kind.the-variants.{System, Public}
+use Rattle.kinds.specs.declared.Kind.the-variants.{System, Public}
 use Rattle.stand_in.proofs.check_lent.Statement.{statement}
 use Rattle.stand_in.proofs.check_lent.Tie as tie
 

@@ -4,7 +4,7 @@ use Prim.Native.Nat.{ℕ}
 use native.Mathlib.Omega.{arith}
 use borrow.Author.Needs.{needs}
 use Rattle.algebra.specs.Permutations.{IsPerm}
-use Rattle.round.specs.Round.{systemOf, pair}
+use Rattle.scheme.specs.Round.{systemOf, pair}
 use Rattle.stand_in.proofs.Laid.{round-laid}
 use Rattle.stand_in.proofs.put_round.Statement.{statement}
 use Rattle.stand_in.proofs.put_round.Tie as tie

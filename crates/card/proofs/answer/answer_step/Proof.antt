@@ -6,14 +6,14 @@ use native.Mathlib.Omega.{arith}
 use borrow.Author.Needs.{needs}
 use lib.ListN.{length}
 use Rattle.algebra.specs.Lists.{over}
-use Rattle.card_checks.proofs.Facts.{AnswerFits, answer-told}
-use Rattle.card_checks.specs.Keys.{keys, placesOf}
-use Rattle.card.proofs.Parts.{answers-formed, card-parts, challenges-sent}
-use Rattle.card.specs.Steps.{answerTold, answered}
+use Rattle.card_rules.proofs.Facts.{AnswerFits, answer-told}
+use Rattle.card_rules.specs.Keys.{keys, placesOf}
+use Rattle.card_steps.proofs.Parts.{answers-formed, card-parts, challenges-sent}
+use Rattle.card_steps.specs.Steps.{answerTold, answered}
 use Rattle.frames.proofs.Facts.{size-small}
 use Rattle.frames.proofs.Orders.{rest-part}
 use Rattle.writers.specs.Writing.{frame}
-use Rattle.frames.specs.declared.kind.Kind.the-variants.{Answers, Challenges}
+use Rattle.kinds.specs.declared.Kind.the-variants.{Answers, Challenges}
 use Rattle.refusals.proofs.Chain.{goes-on, stops}
 use Rattle.refusals.specs.Told.{means}
 use Rattle.card.proofs.answer.answer_step.Statement.{statement}

@@ -9,9 +9,9 @@ use borrow.Rule.Slice.PartMut.{putMid}
 use Rattle.algebra.proofs.Lists.{length-joined}
 use Rattle.algebra.specs.Lists.{joined}
 use Rattle.algebra.specs.Residues.{modulus}
-use Rattle.card.proofs.Parts.{body-written}
+use Rattle.card_steps.proofs.Parts.{body-written}
 use Rattle.frames.proofs.Facts.{size-small}
-use Rattle.frames.specs.declared.kind.Kind.the-variants.{Answers}
+use Rattle.kinds.specs.declared.Kind.the-variants.{Answers}
 use Rattle.rounds.proofs.Runs.{answer-length}
 use Rattle.rounds.specs.Layout.{pairAt}
 use Rattle.rounds.specs.Rounds.{answerAt}

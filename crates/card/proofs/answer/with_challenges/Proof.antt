@@ -3,8 +3,8 @@ use mathlib.Core.Path.{ap}
 use mathlib.Core.List.{List}
 use Prim.Native.Nat.{ℕ}
 use borrow.Author.Needs.{needs}
-use Rattle.card_checks.specs.Stages.{ANSWERED}
-use Rattle.card.specs.Steps.{answered}
+use Rattle.card_rules.specs.Stages.{ANSWERED}
+use Rattle.card_steps.specs.Steps.{answered}
 use Rattle.card.proofs.answer.with_challenges.Statement.{statement}
 use Rattle.card.proofs.answer.with_challenges.Tie as tie
 

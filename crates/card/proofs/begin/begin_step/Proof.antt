@@ -6,12 +6,12 @@ use native.Mathlib.Omega.{arith}
 use borrow.Author.Needs.{needs}
 use lib.ListN.{length}
 use Rattle.algebra.specs.Lists.{over}
-use Rattle.card_checks.proofs.Facts.{BeginFits, begin-told}
-use Rattle.card_checks.specs.Keys.{keys}
-use Rattle.card.proofs.Parts.{commitments-formed, key-parts, system-part}
-use Rattle.card.specs.Steps.{beginTold, begun}
+use Rattle.card_rules.proofs.Facts.{BeginFits, begin-told}
+use Rattle.card_rules.specs.Keys.{keys}
+use Rattle.card_steps.proofs.Parts.{commitments-formed, key-parts, system-part}
+use Rattle.card_steps.specs.Steps.{beginTold, begun}
 use Rattle.writers.specs.Writing.{frame}
-use Rattle.frames.specs.declared.kind.Kind.the-variants.{Commitments}
+use Rattle.kinds.specs.declared.Kind.the-variants.{Commitments}
 use Rattle.refusals.proofs.Chain.{goes-on, stops}
 use Rattle.refusals.specs.Told.{means}
 use Rattle.card.proofs.begin.begin_step.Statement.{statement}

@@ -8,9 +8,9 @@ use lib.ListN.{length}
 use borrow.Rule.Slice.PartMut.{putMid}
 use Rattle.algebra.proofs.Lists.{length-joined}
 use Rattle.algebra.specs.Lists.{joined}
-use Rattle.card.proofs.Parts.{body-written}
-use Rattle.frames.specs.declared.kind.Kind.the-variants.{Commitments}
-use Rattle.round.specs.Round.{systemOf}
+use Rattle.card_steps.proofs.Parts.{body-written}
+use Rattle.kinds.specs.declared.Kind.the-variants.{Commitments}
+use Rattle.scheme.specs.Round.{systemOf}
 use Rattle.rounds.proofs.Runs.{commitments-length}
 use Rattle.rounds.specs.Rounds.{commitmentsAt}
 use Rattle.card.proofs.begin.put_commitments.Statement.{statement}

@@ -1,7 +1,7 @@
 -- `give_up_step` meets its contract: nothing is asked.
 use mathlib.Core.Path.{refl}
 use borrow.Author.Needs.{needs}
-use Rattle.card.specs.Steps.{fresh}
+use Rattle.card_steps.specs.Steps.{fresh}
 use Rattle.card.proofs.give_up.give_up_step.Statement.{statement}
 use Rattle.card.proofs.give_up.give_up_step.Tie as tie
 

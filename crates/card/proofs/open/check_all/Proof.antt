@@ -2,9 +2,9 @@
 use mathlib.Core.Path.{sym, ap, _∙_}
 use mathlib.Core.List.{[]}
 use borrow.Author.Needs.{needs}
-use Rattle.card_checks.proofs.Facts.{open-told}
-use Rattle.card.proofs.Opening.{open-ready}
-use Rattle.card.specs.Steps.{openRefusal}
+use Rattle.card_rules.proofs.Facts.{open-told}
+use Rattle.card_steps.proofs.Opening.{open-ready}
+use Rattle.card_steps.specs.Steps.{openRefusal}
 use Rattle.refusals.proofs.Chain.{goes-on, stops}
 use Rattle.refusals.specs.Told.{means}
 use Rattle.card.proofs.open.check_all.Statement.{statement}

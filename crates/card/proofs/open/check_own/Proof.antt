@@ -2,11 +2,11 @@
 use mathlib.Core.Path.{refl, _∙_}
 use native.Mathlib.Omega.{arith}
 use borrow.Author.Needs.{needs}
-use Rattle.card_checks.specs.Keys.{keys}
-use Rattle.card.proofs.Opening.{faulty-formed, own-fails, own-holds}
-use Rattle.card.proofs.Parts.{card-parts, system-part}
+use Rattle.card_rules.specs.Keys.{keys}
+use Rattle.card_steps.proofs.Opening.{faulty-formed, own-fails, own-holds}
+use Rattle.card_steps.proofs.Parts.{card-parts, system-part}
 use Rattle.frames.proofs.Orders.{rest-part}
-use Rattle.frames.specs.declared.kind.Kind.the-variants.{Bits}
+use Rattle.kinds.specs.declared.Kind.the-variants.{Bits}
 use Rattle.card.proofs.open.check_own.Statement.{statement}
 use Rattle.card.proofs.open.check_own.Tie as tie
 

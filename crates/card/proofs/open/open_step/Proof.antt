@@ -6,15 +6,15 @@ use native.Mathlib.Omega.{arith}
 use borrow.Author.Needs.{needs}
 use lib.ListN.{length}
 use Rattle.algebra.specs.Lists.{over}
-use Rattle.card_checks.proofs.Facts.{OpenFits}
-use Rattle.card_checks.specs.Keys.{keys, placesOf}
-use Rattle.card.proofs.Opening.{refusal-told}
-use Rattle.card.proofs.Parts.{bits-sent, key-parts, openings-formed}
-use Rattle.card.specs.Steps.{closed, openTold}
+use Rattle.card_rules.proofs.Facts.{OpenFits}
+use Rattle.card_rules.specs.Keys.{keys, placesOf}
+use Rattle.card_steps.proofs.Opening.{refusal-told}
+use Rattle.card_steps.proofs.Parts.{bits-sent, key-parts, openings-formed}
+use Rattle.card_steps.specs.Steps.{closed, openTold}
 use Rattle.frames.proofs.Facts.{size-small}
 use Rattle.frames.proofs.Orders.{rest-part}
 use Rattle.writers.specs.Writing.{frame}
-use Rattle.frames.specs.declared.kind.Kind.the-variants.{Bits, Openings}
+use Rattle.kinds.specs.declared.Kind.the-variants.{Bits, Openings}
 use Rattle.refusals.proofs.Chain.{goes-on, stops}
 use Rattle.refusals.specs.Told.{means}
 use Rattle.card.proofs.open.open_step.Statement.{statement}

@@ -8,10 +8,10 @@ use lib.ListN.{length}
 use borrow.Rule.Slice.PartMut.{putMid}
 use Rattle.algebra.proofs.Lists.{length-joined}
 use Rattle.algebra.specs.Lists.{joined}
-use Rattle.card.proofs.Parts.{body-written}
+use Rattle.card_steps.proofs.Parts.{body-written}
 use Rattle.frames.proofs.Facts.{size-small}
 use Rattle.packed_bits.specs.PackedBits.{bitAt}
-use Rattle.frames.specs.declared.kind.Kind.the-variants.{Openings}
+use Rattle.kinds.specs.declared.Kind.the-variants.{Openings}
 use Rattle.rounds.proofs.Runs.{opening-length}
 use Rattle.rounds.specs.Rounds.{openingAt}
 use Rattle.card.proofs.open.put_openings.Statement.{statement}

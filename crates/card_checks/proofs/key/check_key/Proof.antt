@@ -2,8 +2,8 @@
 use mathlib.Core.Path.{sym, ap, _∙_}
 use mathlib.Core.List.{[]}
 use borrow.Author.Needs.{needs}
-use Rattle.card_checks.proofs.Facts.{keys-told}
-use Rattle.card_checks.specs.Keys.{keyCheck}
+use Rattle.card_rules.proofs.Facts.{keys-told}
+use Rattle.card_rules.specs.Keys.{keyCheck}
 use Rattle.refusals.proofs.Chain.{goes-on, stops}
 use Rattle.refusals.specs.Told.{means}
 use Rattle.card_checks.proofs.key.check_key.Statement.{statement}

@@ -3,12 +3,12 @@ use Prim.Native.Nat.{_≤_}
 use native.Mathlib.Omega.{arith}
 use borrow.Author.Needs.{needs}
 use Rattle.algebra.specs.Permutations.{longest}
-use Rattle.card_checks.proofs.Orders.{bad-public, bad-secret, bad-system, good-keys}
-use Rattle.card_checks.specs.Keys.{keys}
+use Rattle.card_rules.proofs.Orders.{bad-public, bad-secret, bad-system, good-keys}
+use Rattle.card_rules.specs.Keys.{keys}
 use Rattle.frames.proofs.Facts.{FrameFits, frame-fits}
-use Rattle.frames.proofs.Passing.{system-fits}
-use Rattle.frames.specs.Kinds.{alone}
-use Rattle.frames.specs.declared.kind.Kind.the-variants.{System}
+use Rattle.readers.proofs.Passing.{system-fits}
+use Rattle.kinds.specs.Kinds.{alone}
+use Rattle.kinds.specs.declared.Kind.the-variants.{System}
 use Rattle.card_checks.proofs.key.check_keys.Statement.{statement}
 use Rattle.card_checks.proofs.key.check_keys.Tie as tie
 

@@ -2,9 +2,9 @@
 use mathlib.Core.Path.{_∙_}
 use native.Mathlib.Omega.{arith}
 use borrow.Author.Needs.{needs}
-use Rattle.card_checks.proofs.Facts.{parts-fault, parts-fit}
-use Rattle.card_checks.proofs.Orders.{bad-key, good-key}
-use Rattle.card_checks.specs.Keys.{keys}
+use Rattle.card_rules.proofs.Facts.{parts-fault, parts-fit}
+use Rattle.card_rules.proofs.Orders.{bad-key, good-key}
+use Rattle.card_rules.specs.Keys.{keys}
 use Rattle.card_checks.proofs.key.check_valid.Statement.{statement}
 use Rattle.card_checks.proofs.key.check_valid.Tie as tie
 

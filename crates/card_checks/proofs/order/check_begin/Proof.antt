@@ -4,13 +4,13 @@ use mathlib.Core.List.{[]}
 use native.Mathlib.Omega.{arith}
 use borrow.Author.Needs.{needs}
 use borrow.Author.Tests.{not-false, not-true}
-use Rattle.card_checks.proofs.Facts.{keys-told}
-use Rattle.card_checks.proofs.Orders.{test-goes-on, test-stops}
-use Rattle.card_checks.specs.Asking.{beginCheck}
-use Rattle.card_checks.specs.Keys.{keys}
-use Rattle.card_checks.specs.Lent.{KeysFit}
+use Rattle.card_rules.proofs.Facts.{keys-told}
+use Rattle.card_rules.proofs.Orders.{test-goes-on, test-stops}
+use Rattle.card_rules.specs.Asking.{beginCheck}
+use Rattle.card_rules.specs.Keys.{keys}
+use Rattle.card_rules.specs.Lent.{KeysFit}
 use Rattle.frames.proofs.Facts.{within-told}
-use Rattle.frames.specs.Kinds.{alone}
+use Rattle.kinds.specs.Kinds.{alone}
 use Rattle.refusals.proofs.Chain.{goes-on, stops}
 use Rattle.refusals.specs.Told.{means}
 use Rattle.card_checks.proofs.order.check_begin.Statement.{statement}

@@ -5,15 +5,15 @@ use Prim.Native.Nat.{_≤_}
 use native.Mathlib.Omega.{arith}
 use borrow.Author.Needs.{needs}
 use borrow.Author.Tests.{eq-eqb, ne-eqb, not-false, not-true}
-use Rattle.card_checks.proofs.Facts.{keys-told}
-use Rattle.card_checks.proofs.Orders.{test-goes-on, test-stops, open-in-order}
-use Rattle.card_checks.proofs.Records.{record-told}
-use Rattle.card_checks.specs.Keys.{keys}
-use Rattle.card_checks.specs.Lent.{KeysFit}
-use Rattle.card_checks.specs.Stages.{ANSWERED}
+use Rattle.card_rules.proofs.Facts.{keys-told}
+use Rattle.card_rules.proofs.Orders.{test-goes-on, test-stops, open-in-order}
+use Rattle.card_rules.proofs.Records.{record-told}
+use Rattle.card_rules.specs.Keys.{keys}
+use Rattle.card_rules.specs.Lent.{KeysFit}
+use Rattle.card_rules.specs.Stages.{ANSWERED}
 use Rattle.frames.proofs.Facts.{size-small}
 use Rattle.frames.proofs.Orders.{frame-goes-on, frame-stops}
-use Rattle.frames.specs.declared.kind.Kind.the-variants.{Openings}
+use Rattle.kinds.specs.declared.Kind.the-variants.{Openings}
 use Rattle.refusals.proofs.Chain.{goes-on, stops}
 use Rattle.refusals.specs.Told.{means}
 use Rattle.card_checks.proofs.order.check_open.Statement.{statement}

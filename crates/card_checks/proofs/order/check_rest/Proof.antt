@@ -2,7 +2,7 @@
 use mathlib.Core.Path.{_∙_, sym}
 use native.Mathlib.Omega.{arith}
 use borrow.Author.Needs.{needs}
-use Rattle.card_checks.proofs.Orders.{no-room, room-enough, rest-in-order}
+use Rattle.card_rules.proofs.Orders.{no-room, room-enough, rest-in-order}
 use Rattle.refusals.proofs.Chain.{goes-on, stops}
 use Rattle.card_checks.proofs.order.check_rest.Statement.{statement}
 use Rattle.card_checks.proofs.order.check_rest.Tie as tie

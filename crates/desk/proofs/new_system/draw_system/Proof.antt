@@ -2,10 +2,10 @@
 use mathlib.Core.Path.{sym, _∙_}
 use native.Mathlib.Omega.{arith}
 use borrow.Author.Tests.{not-false}
-use Rattle.algebra.proofs.Drawings.{enough-of}
-use Rattle.draw.specs.Sequences.{someBelow}
+use Rattle.random.proofs.Drawings.{enough-of}
+use Rattle.random.specs.Sequences.{someBelow}
 use Rattle.frames.proofs.Facts.{numbers-small}
-use Rattle.frames.specs.declared.kind.Kind.the-variants.{System}
+use Rattle.kinds.specs.declared.Kind.the-variants.{System}
 use borrow.Author.Needs.{needs}
 use Rattle.desk.proofs.new_system.draw_system.Statement.{statement}
 use Rattle.desk.proofs.new_system.draw_system.Tie as tie

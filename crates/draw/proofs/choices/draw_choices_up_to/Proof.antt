@@ -4,9 +4,9 @@ use mathlib.Core.List.{[]}
 use native.Mathlib.Omega.{arith}
 use borrow.Author.Needs.{needs}
 use borrow.Author.Tests.{not-true, not-false}
-use Rattle.algebra.proofs.Drawings.{enough-of}
+use Rattle.random.proofs.Drawings.{enough-of}
 use Rattle.algebra.proofs.Sums.{byte-mul}
-use Rattle.frames.specs.Choosing.{choiceSize}
+use Rattle.readers.specs.Choosing.{choiceSize}
 use Rattle.draw.specs.Telling.{choicesFit}
 use Rattle.draw.specs.Making.{drawChoices}
 use Rattle.draw.proofs.Orders.{bad-numbers, no-room, good-numbers, runs-out, takes}

@@ -1,10 +1,10 @@
 -- `measure_choice` meets its contract: R, and from the place after it σ.
 use mathlib.Core.Path.{sym, _∙_}
 use borrow.Author.Needs.{needs}
-use Rattle.algebra.specs.Drawings.{drawPermutation}
+use Rattle.random.specs.Drawings.{drawPermutation}
 use Rattle.draw.specs.Making.{drawChoice}
-use Rattle.draw.specs.Sequences.{drawResidues}
-use Rattle.draw.proofs.Sequences.{then-used, then-short}
+use Rattle.random.specs.Sequences.{drawResidues}
+use Rattle.random.proofs.Sequences.{then-used, then-short}
 use Rattle.draw.proofs.choices.measure_choice.Statement.{statement}
 use Rattle.draw.proofs.choices.measure_choice.Tie as tie
 

@@ -3,11 +3,11 @@ use mathlib.Core.Path.{_≡_, sym, ap, _∙_}
 use Prim.Native.Nat.{ℕ, _-_, _≤_}
 use native.Mathlib.Omega.{arith}
 use borrow.Author.Needs.{needs}
-use Rattle.algebra.specs.Drawings.{usedBy}
+use Rattle.random.specs.Drawings.{usedBy}
 use Rattle.draw.specs.Making.{drawChoice, drawChoices}
-use Rattle.draw.specs.Sequences.{manyTimes}
-use Rattle.draw.proofs.Sequences.{times-none, times-ends, measured-more}
-use Rattle.algebra.specs.declared.draw.Used.the-variants.{To}
+use Rattle.random.specs.Sequences.{manyTimes}
+use Rattle.random.proofs.Sequences.{times-none, times-ends, measured-more}
+use Rattle.random.specs.declared.draw.Used.the-variants.{To}
 use Rattle.draw.proofs.choices.measure_choices.Statement.{statement}
 use Rattle.draw.proofs.choices.measure_choices.Tie as tie
 

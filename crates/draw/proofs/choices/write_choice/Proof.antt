@@ -7,12 +7,12 @@ use borrow.Author.Needs.{needs}
 use lib.ListN.{length}
 use borrow.Rule.Slice.PartMut.{midOf}
 use Rattle.refusals.specs.Told.{first}
-use Rattle.algebra.specs.Drawings.{Drawing, drawPermutation, usedBy, drawnOver}
+use Rattle.random.specs.Drawings.{Drawing, drawPermutation, usedBy, drawnOver}
 use Rattle.algebra.specs.Residues.{modulus, Residues}
-use Rattle.algebra.proofs.Drawings.{Permutes, drawn-perm}
+use Rattle.random.proofs.Drawings.{Permutes, drawn-perm}
 use Rattle.draw.specs.Making.{drawChoice}
-use Rattle.draw.specs.Sequences.{drawResidues}
-use Rattle.draw.proofs.Sequences.{drew-of, then-drew, enough-first, enough-next, behind, Always, some-below}
+use Rattle.random.specs.Sequences.{drawResidues}
+use Rattle.random.proofs.Sequences.{drew-of, then-drew, enough-first, enough-next, behind, Always, some-below}
 use Rattle.draw.proofs.choices.write_choice.Statement.{statement}
 use Rattle.draw.proofs.choices.write_choice.Tie as tie
 

@@ -8,14 +8,14 @@ use native.Mathlib.Omega.{arith}
 use borrow.Author.Needs.{needs}
 use lib.ListN.{length}
 use borrow.Rule.Slice.PartMut.{midOf}
-use Rattle.algebra.specs.Drawings.{Drawing, drawnOver}
+use Rattle.random.specs.Drawings.{Drawing, drawnOver}
 use Rattle.algebra.proofs.Lists.{stretch-fits}
 use Rattle.algebra.proofs.Sums.{byte-mul}
-use Rattle.frames.specs.Choosing.{choiceSize}
-use Rattle.frames.proofs.Passing.{Chosen}
+use Rattle.readers.specs.Choosing.{choiceSize}
+use Rattle.readers.proofs.Passing.{Chosen}
 use Rattle.draw.specs.Making.{drawChoice, drawChoices}
 use Rattle.draw.proofs.Making.{choice-chosen}
-use Rattle.draw.proofs.Sequences.{drew-of, behind, Written, written-none, written-more, written-enough, written-all, Always, written-each}
+use Rattle.random.proofs.Sequences.{drew-of, behind, Written, written-none, written-more, written-enough, written-all, Always, written-each}
 use Rattle.draw.proofs.choices.write_choices.Statement.{statement}
 use Rattle.draw.proofs.choices.write_choices.Tie as tie
 

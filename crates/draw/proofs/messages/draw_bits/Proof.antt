@@ -7,18 +7,18 @@ use borrow.Author.Needs.{needs}
 use borrow.Author.Tests.{not-true, not-false}
 use Rattle.refusals.specs.Buffer.{OUTPUT}
 use Rattle.refusals.specs.Number.{ROOM}
-use Rattle.algebra.specs.Drawings.{usedBy}
-use Rattle.algebra.proofs.Drawings.{enough-of}
+use Rattle.random.specs.Drawings.{usedBy}
+use Rattle.random.proofs.Drawings.{enough-of}
 use Rattle.packed_bits.specs.Clearing.{packedSize, cleared}
-use Rattle.frames.specs.Kinds.{within, alone}
+use Rattle.kinds.specs.Kinds.{within, alone}
 use Rattle.writers.specs.Writing.{frame}
 use Rattle.draw.specs.Telling.{refusal}
 use Rattle.frames.proofs.Facts.{within-told}
 use Rattle.draw.specs.Making.{drawBits}
-use Rattle.draw.specs.Sequences.{someBelow, byteLimit}
+use Rattle.random.specs.Sequences.{someBelow, byteLimit}
 use Rattle.draw.proofs.Orders.{bad-numbers, no-room, good-numbers, runs-out, takes}
-use Rattle.draw.proofs.Sequences.{made-used}
-use Rattle.frames.specs.declared.kind.Kind.the-variants.{Bits}
+use Rattle.random.proofs.Sequences.{made-used}
+use Rattle.kinds.specs.declared.Kind.the-variants.{Bits}
 use Rattle.draw.proofs.messages.draw_bits.Statement.{statement}
 use Rattle.draw.proofs.messages.draw_bits.Tie as tie
 

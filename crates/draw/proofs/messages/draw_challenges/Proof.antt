@@ -6,16 +6,16 @@ use borrow.Author.Needs.{needs}
 use borrow.Author.Tests.{not-true, not-false}
 use Rattle.refusals.specs.Buffer.{OUTPUT}
 use Rattle.refusals.specs.Number.{ROOM}
-use Rattle.algebra.proofs.Drawings.{enough-of}
-use Rattle.frames.specs.Kinds.{within, alone}
+use Rattle.random.proofs.Drawings.{enough-of}
+use Rattle.kinds.specs.Kinds.{within, alone}
 use Rattle.writers.specs.Writing.{frame}
 use Rattle.draw.specs.Telling.{refusal}
 use Rattle.frames.proofs.Facts.{within-told}
 use Rattle.draw.specs.Making.{drawChallenges}
-use Rattle.draw.specs.Sequences.{drawResidues}
+use Rattle.random.specs.Sequences.{drawResidues}
 use Rattle.draw.proofs.Orders.{bad-numbers, no-room, good-numbers, runs-out, takes}
-use Rattle.draw.proofs.Sequences.{made-used}
-use Rattle.frames.specs.declared.kind.Kind.the-variants.{Challenges}
+use Rattle.random.proofs.Sequences.{made-used}
+use Rattle.kinds.specs.declared.Kind.the-variants.{Challenges}
 use Rattle.draw.proofs.messages.draw_challenges.Statement.{statement}
 use Rattle.draw.proofs.messages.draw_challenges.Tie as tie
 

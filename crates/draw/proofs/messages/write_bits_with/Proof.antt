@@ -6,7 +6,7 @@ use native.Mathlib.Omega.{arith}
 use borrow.Author.Needs.{needs}
 use lib.ListN.{length}
 use lib.Seq.{length-take-le}
-use Rattle.algebra.specs.Drawings.{Drawing, drawnOver}
+use Rattle.random.specs.Drawings.{Drawing, drawnOver}
 use Rattle.algebra.specs.Lists.{over}
 use Rattle.algebra.specs.Residues.{Residues}
 use Rattle.algebra.proofs.Lists.{front}
@@ -14,9 +14,9 @@ use Rattle.packed_bits.specs.Clearing.{packedSize, cleared}
 use Rattle.writers.specs.Writing.{frame}
 use Rattle.packed_bits.proofs.Clearing.{length-cleared}
 use Rattle.draw.specs.Making.{drawBits}
-use Rattle.draw.specs.Sequences.{made, someBelow, byteLimit}
-use Rattle.draw.proofs.Sequences.{drew-of, Always, some-below}
-use Rattle.frames.specs.declared.kind.Kind.the-variants.{Bits}
+use Rattle.random.specs.Sequences.{made, someBelow, byteLimit}
+use Rattle.random.proofs.Sequences.{drew-of, Always, some-below}
+use Rattle.kinds.specs.declared.Kind.the-variants.{Bits}
 use Rattle.draw.proofs.messages.write_bits_with.Statement.{statement}
 use Rattle.draw.proofs.messages.write_bits_with.Tie as tie
 

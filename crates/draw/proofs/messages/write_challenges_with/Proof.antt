@@ -6,15 +6,15 @@ use native.Mathlib.Omega.{arith}
 use borrow.Author.Needs.{needs}
 use lib.ListN.{length}
 use lib.Seq.{length-take-le}
-use Rattle.algebra.specs.Drawings.{Drawing, drawnOver}
+use Rattle.random.specs.Drawings.{Drawing, drawnOver}
 use Rattle.algebra.specs.Lists.{over}
 use Rattle.algebra.specs.Residues.{modulus, Residues}
 use Rattle.algebra.proofs.Lists.{front}
 use Rattle.writers.specs.Writing.{frame}
 use Rattle.draw.specs.Making.{drawChallenges}
-use Rattle.draw.specs.Sequences.{made, drawResidues}
-use Rattle.draw.proofs.Sequences.{drew-of, Always, some-below}
-use Rattle.frames.specs.declared.kind.Kind.the-variants.{Challenges}
+use Rattle.random.specs.Sequences.{made, drawResidues}
+use Rattle.random.proofs.Sequences.{drew-of, Always, some-below}
+use Rattle.kinds.specs.declared.Kind.the-variants.{Challenges}
 use Rattle.draw.proofs.messages.write_challenges_with.Statement.{statement}
 use Rattle.draw.proofs.messages.write_challenges_with.Tie as tie
 

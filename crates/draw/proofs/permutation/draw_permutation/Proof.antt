@@ -4,9 +4,9 @@ use mathlib.Core.List.{[]}
 use native.Mathlib.Omega.{arith}
 use borrow.Author.Needs.{needs}
 use borrow.Author.Tests.{not-true, not-false}
-use Rattle.algebra.specs.Drawings.{drawPermutation}
-use Rattle.algebra.proofs.Drawings.{untouched}
-use Rattle.frames.specs.Kinds.{within, alone}
+use Rattle.random.specs.Drawings.{drawPermutation}
+use Rattle.random.proofs.Drawings.{untouched}
+use Rattle.kinds.specs.Kinds.{within, alone}
 use Rattle.frames.proofs.Facts.{within-told}
 use Rattle.draw.proofs.Orders.{bad-numbers, no-room, good-numbers, runs-out, takes}
 use Rattle.draw.proofs.permutation.draw_permutation.Statement.{statement}

@@ -3,8 +3,8 @@ use mathlib.Core.Path.{ap, _∙_}
 use native.Mathlib.Nat.{mul-comm}
 use native.Mathlib.Omega.{arith}
 use borrow.Author.Needs.{needs}
-use Rattle.frames.specs.Kinds.{table}
-use Rattle.frames.specs.declared.kind.Kind.{Kind}
+use Rattle.kinds.specs.Kinds.{table}
+use Rattle.kinds.specs.declared.Kind.{Kind}
 use Rattle.frames.proofs.body.check_content.Statement.{statement}
 use Rattle.frames.proofs.body.check_content.Tie as tie
 

@@ -6,7 +6,7 @@ use borrow.Author.Needs.{needs}
 use lib.ListN.{length, length-drop}
 use Rattle.refusals.specs.Told.{done, means}
 use Rattle.refusals.proofs.Chain.{goes-on, stops, demand-done}
-use Rattle.frames.specs.Kinds.{table}
+use Rattle.kinds.specs.Kinds.{table}
 use Rattle.frames.specs.Reading.{firstOf, secondOf, reading}
 use Rattle.frames.proofs.Facts.{Headed, header-told, first-modest, Shaped, shape-told, rest-length, start-five}
 use Rattle.frames.proofs.Orders.{rest-part, content-read, numbers-read}

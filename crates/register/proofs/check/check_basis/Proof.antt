@@ -4,9 +4,9 @@ use native.Mathlib.Omega.{arith}
 use borrow.Author.Needs.{needs}
 use Rattle.frames.proofs.Facts.{FrameFits, frame-fits}
 use Rattle.frames.proofs.Orders.{frame-goes-on, frame-stops}
-use Rattle.frames.proofs.Passing.{system-fits}
-use Rattle.frames.specs.Kinds.{Modest, alone}
-use Rattle.frames.specs.declared.kind.Kind.the-variants.{System}
+use Rattle.readers.proofs.Passing.{system-fits}
+use Rattle.kinds.specs.Kinds.{Modest, alone}
+use Rattle.kinds.specs.declared.Kind.the-variants.{System}
 use Rattle.register.specs.Verdict.{basisCheck}
 use Rattle.register.proofs.check.check_basis.Statement.{statement}
 use Rattle.register.proofs.check.check_basis.Tie as tie

@@ -7,7 +7,7 @@ use borrow.Author.Needs.{needs}
 use lib.ListN.{length}
 use lib.Seq.{length-take-le}
 use Rattle.sha256.specs.Standard.{digestOf}
-use Rattle.round.specs.Round.{committed1}
+use Rattle.scheme.specs.Round.{committed1}
 use Rattle.round.proofs.Rooms.{take-within, front-permute}
 use Rattle.round.proofs.card.commitment_one_with.Statement.{statement}
 use Rattle.round.proofs.card.commitment_one_with.Tie as tie

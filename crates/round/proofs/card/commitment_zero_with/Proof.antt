@@ -5,12 +5,12 @@ use Prim.Native.Nat.{ℕ}
 use native.Mathlib.Omega.{arith}
 use borrow.Author.Needs.{needs}
 use lib.Seq.{length-take-le}
-use Rattle.algebra.specs.Matrices.{product}
+use Rattle.matrices.specs.Matrices.{product}
 use Rattle.algebra.specs.Residues.{modulus}
 use Rattle.algebra.proofs.Lists.{front}
-use Rattle.algebra.proofs.Matrices.{length-product}
+use Rattle.matrices.proofs.Matrices.{length-product}
 use Rattle.sha256.specs.Standard.{digestOf}
-use Rattle.round.specs.Round.{committed0}
+use Rattle.scheme.specs.Round.{committed0}
 use Rattle.round.proofs.Rooms.{take-within}
 use Rattle.round.proofs.card.commitment_zero_with.Statement.{statement}
 use Rattle.round.proofs.card.commitment_zero_with.Tie as tie

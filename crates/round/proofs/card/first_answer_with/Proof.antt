@@ -10,7 +10,7 @@ use Rattle.algebra.specs.Lists.{over}
 use Rattle.algebra.specs.Permutations.{compose}
 use Rattle.algebra.specs.Residues.{modulus, addScaled}
 use Rattle.algebra.proofs.Permutations.{length-permute}
-use Rattle.round.specs.Round.{firstAnswer}
+use Rattle.scheme.specs.Round.{firstAnswer}
 use Rattle.round.proofs.Rooms.{take-alike, front-permute}
 use Rattle.round.proofs.card.first_answer_with.Statement.{statement}
 use Rattle.round.proofs.card.first_answer_with.Tie as tie

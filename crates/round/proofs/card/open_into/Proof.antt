@@ -1,6 +1,6 @@
 -- `open_into` meets its contract, bit by bit.
 use borrow.Author.Needs.{needs}
-use Rattle.round.specs.Round.{opening}
+use Rattle.scheme.specs.Round.{opening}
 use Rattle.round.proofs.card.open_into.Statement.{statement}
 use Rattle.round.proofs.card.open_into.Tie as tie
 

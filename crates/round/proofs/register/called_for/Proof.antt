@@ -1,6 +1,6 @@
 -- `called_for` meets its contract, bit by bit.
 use borrow.Author.Needs.{needs}
-use Rattle.round.specs.Round.{calledFor}
+use Rattle.scheme.specs.Round.{calledFor}
 use Rattle.round.proofs.register.called_for.Statement.{statement}
 use Rattle.round.proofs.register.called_for.Tie as tie
 

@@ -7,11 +7,11 @@ use borrow.Author.Needs.{needs}
 use lib.ListN.{length, take}
 use lib.Seq.{length-take-le}
 use Rattle.algebra.specs.Lists.{over}
-use Rattle.algebra.specs.Matrices.{product}
+use Rattle.matrices.specs.Matrices.{product}
 use Rattle.algebra.specs.Permutations.{IsPerm, inverse, unpermute}
 use Rattle.algebra.specs.Residues.{modulus}
 use Rattle.algebra.proofs.Lists.{front}
-use Rattle.algebra.proofs.Matrices.{length-product, product-unpermute}
+use Rattle.matrices.proofs.Matrices.{length-product, product-unpermute}
 use Rattle.algebra.proofs.Permutations.{length-permute, length-inverse}
 use Rattle.sha256.specs.Standard.{digestOf}
 use Rattle.round.proofs.Rooms.{take-within}

@@ -4,7 +4,7 @@ use mathlib.Core.List.{List}
 use Prim.Native.Nat.{ℕ}
 use borrow.Author.Needs.{needs}
 use Rattle.algebra.specs.Lists.{sameBytes}
-use Rattle.round.specs.Round.{passes}
+use Rattle.scheme.specs.Round.{passes}
 use Rattle.round.proofs.register.passes.Statement.{statement}
 use Rattle.round.proofs.register.passes.Tie as tie
 

@@ -8,7 +8,7 @@ use lib.ListN.{length}
 use lib.Seq.{length-take-le}
 use Rattle.algebra.specs.Lists.{over}
 use Rattle.algebra.specs.Residues.{modulus, addScaled}
-use Rattle.round.specs.Round.{standInAnswer}
+use Rattle.scheme.specs.Round.{standInAnswer}
 use Rattle.round.proofs.Rooms.{front-permute}
 use Rattle.round.proofs.stand_in.added_with.Statement.{statement}
 use Rattle.round.proofs.stand_in.added_with.Tie as tie

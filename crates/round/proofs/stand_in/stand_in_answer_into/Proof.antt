@@ -1,6 +1,6 @@
 -- `stand_in_answer_into` meets its contract, bit by bit.
 use borrow.Author.Needs.{needs}
-use Rattle.round.specs.Round.{standInAnswer}
+use Rattle.scheme.specs.Round.{standInAnswer}
 use Rattle.round.proofs.stand_in.stand_in_answer_into.Statement.{statement}
 use Rattle.round.proofs.stand_in.stand_in_answer_into.Tie as tie
 

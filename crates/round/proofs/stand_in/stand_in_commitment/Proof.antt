@@ -1,6 +1,6 @@
 -- `stand_in_commitment` meets its contract, bit by bit.
 use borrow.Author.Needs.{needs}
-use Rattle.round.specs.Round.{standInCommitted}
+use Rattle.scheme.specs.Round.{standInCommitted}
 use Rattle.round.proofs.stand_in.stand_in_commitment.Statement.{statement}
 use Rattle.round.proofs.stand_in.stand_in_commitment.Tie as tie
 

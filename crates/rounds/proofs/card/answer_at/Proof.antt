@@ -6,7 +6,7 @@ use native.Mathlib.Omega.{arith}
 use borrow.Author.Needs.{needs}
 use lib.ListN.{length, getD}
 use borrow.Rule.Slice.PartMut.{putMid, midOf}
-use Rattle.round.specs.Round.{pair, firstAnswer}
+use Rattle.scheme.specs.Round.{pair, firstAnswer}
 use Rattle.algebra.specs.Lists.{over}
 use Rattle.algebra.specs.Residues.{modulus}
 use Rattle.algebra.proofs.Lists.{part-over}

@@ -3,7 +3,7 @@ use mathlib.Core.Path.{_≡_}
 use Prim.Native.Nat.{_-_, _≤_}
 use native.Mathlib.Omega.{arith}
 use borrow.Author.Needs.{needs}
-use Rattle.round.specs.Round.{systemOf}
+use Rattle.scheme.specs.Round.{systemOf}
 use Rattle.algebra.proofs.Lists.{stretch-fits, Joining, joining-none, joining-more}
 use Rattle.rounds.specs.Rounds.{commitmentsAt}
 use Rattle.rounds.proofs.Runs.{commitments-length}

@@ -5,7 +5,7 @@ use Prim.Native.Nat.{ℕ, _+_, _*_}
 use native.Mathlib.Omega.{arith}
 use borrow.Author.Needs.{needs}
 use lib.ListN.{length}
-use Rattle.round.specs.Round.{systemOf, pair, committed0, committed1}
+use Rattle.scheme.specs.Round.{systemOf, pair, committed0, committed1}
 use Rattle.algebra.specs.Lists.{overAt}
 use Rattle.sha256.specs.Standard.{digestOf}
 use Rattle.sha256.proofs.Digest.{digest-length}

@@ -7,7 +7,7 @@ use native.Mathlib.Omega.{arith}
 use borrow.Author.Needs.{needs}
 use lib.ListN.{length}
 use borrow.Rule.Slice.PartMut.{putMid, midOf}
-use Rattle.round.specs.Round.{opening}
+use Rattle.scheme.specs.Round.{opening}
 use Rattle.algebra.specs.Lists.{over, overAt}
 use Rattle.algebra.proofs.Lists.{part-over}
 use Rattle.rounds.specs.Layout.{pairAt}

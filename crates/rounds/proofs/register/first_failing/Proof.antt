@@ -5,7 +5,7 @@ use Prim.Native.Nat.{ℕ, _-_, _≤_}
 use native.Mathlib.Omega.{arith}
 use borrow.Author.Needs.{needs}
 use borrow.Author.Tests.{not-true, not-false}
-use Rattle.round.specs.Round.{systemOf}
+use Rattle.scheme.specs.Round.{systemOf}
 use Rattle.algebra.specs.Lists.{firstFrom}
 use Rattle.algebra.proofs.Lists.{first-hit, first-skip, first-end}
 use Rattle.rounds.specs.Layout.{messages}

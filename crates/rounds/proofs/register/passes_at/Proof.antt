@@ -6,7 +6,7 @@ use Prim.Native.Nat.{ℕ, _+_, _-_, _*_}
 use native.Mathlib.Omega.{arith}
 use borrow.Author.Needs.{needs}
 use lib.ListN.{getD, take, drop}
-use Rattle.round.specs.Round.{passes, systemOf, opened}
+use Rattle.scheme.specs.Round.{passes, systemOf, opened}
 use Rattle.algebra.specs.Lists.{stretch}
 use Rattle.algebra.proofs.Lists.{part-stretch, stretch-fits}
 use Rattle.algebra.proofs.Sums.{byte-mul}

@@ -4,7 +4,7 @@ use borrow.Author.Needs.{needs}
 use Rattle.refusals.specs.Number.{SHAPE, DRAW}
 use Rattle.refusals.specs.Buffer.{NONE}
 use Rattle.refusals.proofs.Chain.{demand-most}
-use Rattle.frames.specs.Kinds.{within, alone}
+use Rattle.kinds.specs.Kinds.{within, alone}
 use Rattle.signon.proofs.ForC.{draw-for-c}
 use Rattle.signon.proofs.drawing.signon_draw_permutation.Statement.{statement}
 use Rattle.signon.proofs.drawing.signon_draw_permutation.Tie as tie

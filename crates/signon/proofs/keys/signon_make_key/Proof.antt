@@ -3,7 +3,7 @@ use native.Mathlib.Omega.{arith}
 use borrow.Author.Needs.{needs}
 use Rattle.refusals.specs.Number.{PERM, DRAW}
 use Rattle.refusals.proofs.Chain.{most-more}
-use Rattle.frames.proofs.Outcomes.{reading-most}
+use Rattle.readers.proofs.Outcomes.{reading-most}
 use Rattle.signon.proofs.ForC.{draw-for-c}
 use Rattle.signon.proofs.keys.signon_make_key.Statement.{statement}
 use Rattle.signon.proofs.keys.signon_make_key.Tie as tie

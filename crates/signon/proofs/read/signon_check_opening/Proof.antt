@@ -5,7 +5,7 @@ use borrow.Author.Needs.{needs}
 use Rattle.refusals.specs.Told.{means}
 use Rattle.signon.specs.Answers.{answerOf}
 use Rattle.signon.proofs.Numbers.{place-fits, place-told, no-place-told}
-use Rattle.frames.proofs.OpeningLaws.{opening-told}
+use Rattle.readers.proofs.OpeningLaws.{opening-told}
 use Rattle.signon.proofs.read.signon_check_opening.Statement.{statement}
 use Rattle.signon.proofs.read.signon_check_opening.Tie as tie
 

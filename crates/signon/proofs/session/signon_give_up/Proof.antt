@@ -41,10 +41,10 @@ use denote.Triple.Table.{entered, cited}
 use denote.Triple.Clauses.{ensured, lasts}
 use denote.Triple.Walked.{says, Stays, stay-ref, stay-dropped, gave-slice, walkOf, AllGo, goes-ref, goes-dropped, goes-gave-slice, Walks, ends-at, walked, walk-meets}
 use Rattle.signon.specs.Card.{GiveUpForC}
-use Rattle.card_checks.specs.declared.session.Session.{Session}
+use Rattle.card_rules.specs.declared.session.Session.{Session}
 use Rattle.signon.specs.declared.steps.Stepped.{Stepped}
-use Rattle.card_checks.proofs.session.Session as T
-use Rattle.card_checks.proofs.session.Session.Laws as T′
+use Rattle.card_rules.proofs.session.Session as T
+use Rattle.card_rules.proofs.session.Session.Laws as T′
 use Rattle.signon.proofs.steps.Stepped as An
 use Rattle.signon.proofs.steps.Stepped.Laws as An′
 use Rattle.signon.proofs.Answer as To

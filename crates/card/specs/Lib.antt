@@ -1,3 +1,0 @@
--- What the card's calls tell, keep and write.
-pub mod Own
-pub mod Steps

@@ -1,0 +1,2 @@
+-- What the card's calls tell, keep and write.
+pub mod Steps

@@ -1,0 +1,2 @@
+-- The table of kinds.
+pub mod Kinds

@@ -1,0 +1,2 @@
+-- The card's own check.
+pub mod Own

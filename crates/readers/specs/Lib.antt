@@ -1,0 +1,2 @@
+-- What is asked of the choices of a card.
+pub mod Choosing
