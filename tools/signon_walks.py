@@ -11,17 +11,17 @@ from thin import LENT, SHARED, Walk
 
 ROOT = Path(__file__).resolve().parents[1]
 RECORD = "card_rules::session::Session"
-ANSWER, TOLD = "signon::steps::Stepped", "signon::Answer"
+ANSWER, TOLD = "card_for_c::steps::Stepped", "card_for_c::Answer"
 KEYS = [("system", SHARED), ("public", SHARED), ("secret", SHARED)]
 ALL_KEYS = "(keys {system} {public} {secret})"
 USE_KEYS = "use Rattle.card_rules.specs.Keys.{keys}"
 
 
 def stepping(name, step, signature, contract, fact):
-    uses = [f"use Rattle.signon.specs.Card.{{{contract}}}"]
+    uses = [f"use Rattle.card_for_c.specs.Card.{{{contract}}}"]
     if ALL_KEYS in fact:
         uses = [USE_KEYS, *uses]
-    return Walk(f"signon::session::{name}", f"signon::steps::{step}", RECORD, signature, ANSWER, TOLD, f"{contract} {fact}", uses)
+    return Walk(f"signon::session::{name}", f"card_for_c::steps::{step}", RECORD, signature, ANSWER, TOLD, f"{contract} {fact}", uses)
 
 
 WALKS = [

@@ -1,5 +1,4 @@
 // The card's calls.
-use crate::keep::refuse;
 use card::answer::answer_step;
 use card::begin::begin_step;
 use card::give_up::give_up_step;
@@ -7,6 +6,7 @@ use card::open::open_step;
 use card_checks::key::check_key;
 use card_rules::session::Session;
 use card_steps::Step;
+use desk_commands::keep::refuse;
 use desk_files::argument::number;
 use desk_files::save::NOTHING;
 use desk_files::save::save_three;

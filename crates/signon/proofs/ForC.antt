@@ -1,5 +1,5 @@
--- What the calls promise, with their answers as C takes them.
-use mathlib.Core.Path.{_≡_, refl, sym, ap, _∙_}
+-- What the calls that write promise, with their answers as C takes them.
+use mathlib.Core.Path.{_≡_, sym, _∙_}
 use mathlib.Core.List.{List, [], _∷_}
 use Prim.Native.Nat.{ℕ}
 use lib.ListN.{length}
@@ -17,26 +17,12 @@ use Rattle.draw.specs.declared.Taken.{Taken}
 use Rattle.draw.specs.declared.Taken.the-variants.{Bytes, Refused as NotTaken}
 use Rattle.draw.specs.Telling.{takenMeans, drawnAfter, Draws}
 use Rattle.stand_in.specs.Standing.{StandsIn}
-use Rattle.card_rules.specs.declared.session.Session.{Session}
-use Rattle.card_rules.specs.Keys.{Keys}
-use Rattle.card_steps.specs.declared.Step.{Step}
-use Rattle.card_steps.specs.Steps.{unlessRefused, BeginStep, AnswerStep, OpenStep}
-use Rattle.signon.specs.declared.Answer.{Answer}
-use Rattle.signon.specs.Answers.{answerOf, ifDone, Held}
-use Rattle.signon.specs.Card.{BeginForC, AnswerForC, OpenForC}
+use Rattle.card_for_c.specs.declared.Answer.{Answer}
+use Rattle.card_for_c.specs.Answers.{answerOf, Held}
 use Rattle.signon.specs.Calls.{OutputForC, WriteForC, DrawForC, StandInForC}
-use Rattle.signon.proofs.Answering.{refused-left}
-use Rattle.signon.proofs.Holding.{one, begin-held, answer-held, open-held, write-held, stand-in-held, draw-held}
-
--- ---- what is left, by the number of the answer
-
-left-by : {A : Type 0} (w : Written) → Held one (writtenMeans w) → (next was : A) → unlessRefused w next was ≡ ifDone (answerOf (writtenMeans w)) next was
-left-by (Wrote bytes) h next was = refl
-left-by (Refused r) h next was = refused-left one r h next was
-
-output-by : (w : Written) → Held one (writtenMeans w) → (l out : List ℕ) → outAfter w l out ≡ ifDone (answerOf (writtenMeans w)) (over l out) out
-output-by (Wrote bytes) h l out = refl
-output-by (Refused r) h l out = refused-left one r h (over l out) out
+use Rattle.card_for_c.proofs.Answering.{refused-left}
+use Rattle.card_for_c.proofs.Holding.{one}
+use Rattle.signon.proofs.Holding.{write-held, stand-in-held, draw-held}
 
 -- ---- calls that write
 
@@ -71,36 +57,3 @@ pub draw-for-c : (numbers : Told) (need : ℕ) (drawing : Drawing) (random out :
     → answer ≡ answerOf (takenMeans w) → Draws numbers need drawing random out w after → DrawForC numbers need drawing random out answer after
 draw-for-c numbers need drawing random out w answer after h e p =
     drawn-for-c _ (draw-held numbers h need (length out) (usedBy drawing) (length random)) answer after out w e (p .says) drawing (p .writes)
-
--- ---- the card's steps
-
-module _ (step : Step) (answer : Answer) (e : answer ≡ answerOf (writtenMeans (step .told))) (after : List ℕ) where
-  pub begin-for-c : (s : Session) (N : ℕ) (k : Keys) (choices out : List ℕ) → BeginStep s N k choices out step after
-      → BeginForC s N k choices out answer (step .next) after
-  begin-for-c s N k choices out p =
-      let h : Held one (writtenMeans (step .told)) = rw (p .says) (begin-held s N k choices (length out)) in
-      record {
-        says = e ∙ ap answerOf (p .says);
-        moves = rw e (p .moves ∙ left-by (step .told) h _ s);
-        writes = rw e (p .writes ∙ output-by (step .told) h _ out);
-      }
-
-  module _ (s : Session) (k : Keys) (message choices out : List ℕ) where
-    pub answer-for-c : AnswerStep s k message choices out step after → AnswerForC s k message choices out answer (step .next) after
-    answer-for-c p =
-        let h : Held one (writtenMeans (step .told)) = rw (p .says) (answer-held s k message choices (length out)) in
-        record {
-          says = e ∙ ap answerOf (p .says);
-          moves = rw e (p .moves ∙ left-by (step .told) h _ s);
-          writes = rw e (p .writes ∙ output-by (step .told) h _ out);
-        }
-
-    pub open-for-c : (left : List ℕ) → OpenStep s k message choices out step left after → OpenForC s k message choices out answer (step .next) left after
-    open-for-c left p =
-        let h : Held one (writtenMeans (step .told)) = rw (p .says) (open-held s k message choices (length out)) in
-        record {
-          says = e ∙ ap answerOf (p .says);
-          moves = rw e (p .moves ∙ left-by (step .told) h _ s);
-          clears = rw e (p .clears ∙ left-by (step .told) h _ choices);
-          writes = rw e (p .writes ∙ output-by (step .told) h _ out);
-        }

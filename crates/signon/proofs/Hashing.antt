@@ -14,8 +14,8 @@ use Rattle.sha256.specs.declared.Hashed.{Hashed}
 use Rattle.sha256.specs.Standard.{digestOf}
 use Rattle.sha256.specs.Call.{shownOf, Hashes}
 use Rattle.sha256.proofs.Digest.{digest-length}
-use Rattle.signon.specs.declared.Answer.{Answer}
-use Rattle.signon.specs.Answers.{answerOf}
+use Rattle.card_for_c.specs.declared.Answer.{Answer}
+use Rattle.card_for_c.specs.Answers.{answerOf}
 use Rattle.signon.specs.Calls.{digestSize, hashTold, HashForC}
 use Rattle.signon.proofs.Holding.{hash-held}
 use Rattle.signon.proofs.ForC.{done-for-c, refused-for-c}

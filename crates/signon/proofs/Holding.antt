@@ -1,10 +1,10 @@
--- No call tells anything that its answer does not hold.
+-- No call of those beside the card tells anything that its answer does not hold.
 use mathlib.Core.Path.{_≡_, refl, sym, ap, _∙_}
 use mathlib.Core.List.{List, [], _∷_}
 use Prim.Native.Nat.{ℕ, _+_, _*_, _/_, _%_, _≤_, _<_}
 use native.Mathlib.Omega.{arith}
-use Rattle.refusals.specs.Number.{SHAPE, PERM, ROOM, DRAW, STAGE, SECOND, SELF}
-use Rattle.refusals.specs.Told.{Told, done, fine, first}
+use Rattle.refusals.specs.Number.{SHAPE, PERM, ROOM, DRAW, STAGE, SECOND}
+use Rattle.refusals.specs.Told.{Told, done, first}
 use Rattle.refusals.proofs.Chain.{UpTo, ends-done, done-most, first-most, most-more}
 use Rattle.random.specs.declared.draw.Used.{Used}
 use Rattle.sha256.specs.Call.{toldOf}
@@ -20,57 +20,21 @@ use Rattle.draw.specs.Telling.{telling}
 use Rattle.draw.proofs.Outcomes.{telling-most, telling-one}
 use Rattle.stand_in.specs.Standing.{standing}
 use Rattle.stand_in.proofs.Outcomes.{standing-most, standing-one}
-use Rattle.card_rules.specs.declared.session.Session.{Session}
 use Rattle.card_rules.specs.Keys.{Keys, keyCheck}
 use Rattle.card_rules.proofs.Outcomes.{key-most, key-none}
-use Rattle.card_steps.specs.Steps.{beginTold, answerTold, openTold}
-use Rattle.card_steps.proofs.Outcomes.{begin-told-most, begin-told-one, answer-told-most, answer-told-one, open-told-most, open-told-one}
 use Rattle.register.specs.Verdict.{SignOn, judging}
 use Rattle.register.proofs.Outcomes.{judging-most, judging-one}
-use Rattle.signon.specs.Answers.{valueOf, Held}
+use Rattle.card_for_c.specs.Answers.{Held}
+use Rattle.card_for_c.proofs.Holding.{none, one, held-one, held-none}
 use Rattle.signon.specs.Calls.{digestSize, hashTold, openingPlace, openingTold}
 
--- ---- the values of a success, by their number
-
-abbrev pub none : ℕ → List ℕ
-none place = []
-
-abbrev pub one : ℕ → List ℕ
-one place = place ∷ []
+-- ---- the numbers of a frame
 
 -- the numbers of a frame are bytes, and its kind says where the rest starts
 abbrev pub numbers : Kind → ℕ → List ℕ
 numbers kind place = place % 256 ∷ place / 256 ∷ table kind .start ∷ []
 
-held-one : (most : ℕ) (t : Told) → UpTo most t → ((values : List ℕ) → t ≡ done values → (value : ℕ) × (values ≡ value ∷ [])) → Held one t
-held-one most t h f =
-    record {
-      success = λ v e. let p = f v e in rw (p .1);
-      refusal = λ x y z e. h x y z e .0;
-    }
-
-held-none : (most : ℕ) (t : Told) → UpTo most t → ((values : List ℕ) → t ≡ done values → values ≡ []) → Held none t
-held-none most t h f =
-    record {
-      success = λ v e. sym (f v e);
-      refusal = λ x y z e. h x y z e .0;
-    }
-
--- ---- the card
-
-module _ (s : Session) (N : ℕ) (k : Keys) (choices : List ℕ) (room : ℕ) where
-  pub begin-held : Held one (beginTold s N k choices room)
-  begin-held = held-one SELF (beginTold s N k choices room) (begin-told-most s N k choices room) (λ v e. (_, begin-told-one s N k choices room v e))
-
-module _ (s : Session) (k : Keys) (message choices : List ℕ) (room : ℕ) where
-  pub answer-held : Held one (answerTold s k message choices room)
-  answer-held = held-one SELF (answerTold s k message choices room) (answer-told-most s k message choices room) (λ v e. (_, answer-told-one s k message choices room v e))
-
-  pub open-held : Held one (openTold s k message choices room)
-  open-held = held-one SELF (openTold s k message choices room) (open-told-most s k message choices room) (λ v e. (_, open-told-one s k message choices room v e))
-
-pub give-up-held : Held none fine
-give-up-held = held-none SELF fine (done-most SELF []) (λ v e. cc)
+-- ---- the key check
 
 pub key-held : (k : Keys) → Held none (keyCheck k)
 key-held k = held-none STAGE (keyCheck k) (key-most k) (key-none k)

@@ -1,5 +1,4 @@
 -- The laws of the C functions, and examples.
-pub mod Answering
 pub mod Holding
 pub mod ForC
 pub mod Hashing

@@ -10,11 +10,11 @@ use Rattle.readers.proofs.OpeningLaws.{opening-cut}
 use Rattle.card_rules.specs.declared.session.Session.{Session}
 use Rattle.card_rules.specs.Keys.{Keys}
 use Rattle.card_steps.proofs.Outcomes.{one-give-up}
-use Rattle.signon.specs.declared.Answer.{Answer}
-use Rattle.signon.specs.Answers.{ifDone}
-use Rattle.signon.specs.Card.{BeginForC, AnswerForC, OpenForC, GiveUpForC}
+use Rattle.card_for_c.specs.declared.Answer.{Answer}
+use Rattle.card_for_c.specs.Answers.{ifDone}
+use Rattle.card_for_c.specs.Card.{BeginForC, AnswerForC, OpenForC, GiveUpForC}
 use Rattle.signon.specs.Calls.{OutputForC, openingPlace}
-use Rattle.signon.proofs.Answering.{refused-leaves}
+use Rattle.card_for_c.proofs.Answering.{refused-leaves}
 
 -- the same answer leaves the same
 same-left : {A : Type 0} (a b : Answer) → a ≡ b → (next was x y : A) → x ≡ ifDone a next was → y ≡ ifDone b next was → x ≡ y

@@ -18,8 +18,8 @@ use Rattle.frames.specs.Reading.{firstOf, reading, openingCheck}
 use Rattle.writers.specs.Writing.{frame, writing}
 use Rattle.draw.specs.Telling.{telling}
 use Rattle.stand_in.specs.Standing.{standing, standInOf, roundBytes}
-use Rattle.signon.specs.declared.Answer.{Answer}
-use Rattle.signon.specs.Answers.{answerOf, ifDone}
+use Rattle.card_for_c.specs.declared.Answer.{Answer}
+use Rattle.card_for_c.specs.Answers.{answerOf, ifDone}
 
 -- a call that writes: its answer, from what it tells, and every byte of the output; `filled` is the output after a success
 pub record OutputForC (t : Told) (filled out : List ℕ) (answer : Answer) (after : List ℕ) : Type 0 where

@@ -1,6 +1,6 @@
 // Drawing from lent bytes: each answers how many of them it used.
-use crate::Answer;
 use crate::answers::of_drawing;
+use card_for_c::Answer;
 use draw::choices::draw_choices;
 use draw::messages::draw_bits;
 use draw::messages::draw_challenges;

@@ -1,8 +1,8 @@
 // SHA-256.
-use crate::Answer;
-use crate::answers::refusal;
-use crate::answers::success;
 use algebra::output::copy_into;
+use card_for_c::Answer;
+use card_for_c::answers::refusal;
+use card_for_c::answers::success;
 use refusals::Checked;
 use refusals::Refusal;
 use refusals::buffer::OUTPUT;

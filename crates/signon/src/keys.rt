@@ -1,8 +1,8 @@
 // Keys: the check of one, and the making of one.
-use crate::Answer;
 use crate::answers::of_check;
 use crate::answers::of_drawing;
 use card_checks::key::check_key;
+use card_for_c::Answer;
 use key_making::make_key;
 use kinds::Kind;
 ghost use mathlib.Core.Path.{_≡_};
@@ -10,7 +10,7 @@ ghost use Rattle.kinds.specs.Kinds.{alone};
 ghost use Rattle.frames.specs.Reading.{firstOf, reading};
 ghost use Rattle.key_making.specs.Key.{drawKeyFor, keySize};
 ghost use Rattle.card_rules.specs.Keys.{keys, keyCheck};
-ghost use Rattle.signon.specs.Answers.{answerOf};
+ghost use Rattle.card_for_c.specs.Answers.{answerOf};
 ghost use Rattle.signon.specs.Calls.{DrawForC};
 
 #[no_mangle]

@@ -1,7 +1,7 @@
 // Readers: each answers the first number plus 256 times the second. And the place of a named round's opening.
-use crate::Answer;
-use crate::answers::refusal;
-use crate::answers::success;
+use card_for_c::Answer;
+use card_for_c::answers::refusal;
+use card_for_c::answers::success;
 use frames::read::Read;
 use frames::read::read_frame;
 use frames::wide;
@@ -11,7 +11,7 @@ use kinds::start_of;
 use readers::opening::check_opening;
 use refusals::Checked;
 ghost use mathlib.Core.Path.{_≡_};
-ghost use Rattle.signon.specs.Answers.{answerOf};
+ghost use Rattle.card_for_c.specs.Answers.{answerOf};
 ghost use Rattle.signon.specs.Calls.{ReadForC, openingTold};
 
 // What the second number counts in an answer: the first is a byte.

@@ -1,13 +1,13 @@
 // The card's calls as C functions: the host lends the record, and each call moves it on. Each is thin, since its proof is written out by
 // hand (tools/signon_walks.py): the record is copied out, the step is called, the next record is stored.
-use crate::Answer;
-use crate::steps::answer_for_c;
-use crate::steps::begin_for_c;
-use crate::steps::give_up_for_c;
-use crate::steps::open_for_c;
+use card_for_c::Answer;
+use card_for_c::steps::answer_for_c;
+use card_for_c::steps::begin_for_c;
+use card_for_c::steps::give_up_for_c;
+use card_for_c::steps::open_for_c;
 use card_rules::session::Session;
 ghost use Rattle.card_rules.specs.Keys.{keys};
-ghost use Rattle.signon.specs.Card.{BeginForC, AnswerForC, OpenForC, GiveUpForC};
+ghost use Rattle.card_for_c.specs.Card.{BeginForC, AnswerForC, OpenForC, GiveUpForC};
 
 // From idle or closed to committed: all commitments are written.
 #[no_mangle]

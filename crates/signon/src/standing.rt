@@ -1,6 +1,6 @@
 // The stand-in.
-use crate::Answer;
-use crate::answers::of_writing;
+use card_for_c::Answer;
+use card_for_c::answers::of_writing;
 use stand_in::stand_in;
 ghost use Rattle.signon.specs.Calls.{StandInForC};
 

@@ -1,10 +1,10 @@
 // The register's verdict.
-use crate::Answer;
 use crate::answers::of_verdict;
+use card_for_c::Answer;
 use register::decide::verdict;
 ghost use mathlib.Core.Path.{_≡_};
 ghost use Rattle.register.specs.Verdict.{signOn, judging};
-ghost use Rattle.signon.specs.Answers.{answerOf};
+ghost use Rattle.card_for_c.specs.Answers.{answerOf};
 
 // A success answers N.
 #[no_mangle]

@@ -1,6 +1,6 @@
 // Writers: each answers how many bytes it wrote.
-use crate::Answer;
-use crate::answers::of_writing;
+use card_for_c::Answer;
+use card_for_c::answers::of_writing;
 use kinds::Kind;
 use writers::write_frame;
 ghost use Rattle.signon.specs.Calls.{WriteForC};

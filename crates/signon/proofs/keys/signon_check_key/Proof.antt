@@ -1,7 +1,7 @@
 -- `signon_check_key` hands on the answer of `check_key`, whose contract fixes all but how it is written.
 use mathlib.Core.Path.{ap, _∙_}
 use borrow.Author.Needs.{needs}
-use Rattle.signon.specs.Answers.{answerOf}
+use Rattle.card_for_c.specs.Answers.{answerOf}
 use Rattle.signon.proofs.keys.signon_check_key.Statement.{statement}
 use Rattle.signon.proofs.keys.signon_check_key.Tie as tie
 

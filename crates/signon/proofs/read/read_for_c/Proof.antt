@@ -4,7 +4,7 @@ use native.Mathlib.Omega.{arith}
 use borrow.Author.Needs.{needs}
 use Rattle.frames.specs.Reading.{readMeans}
 use Rattle.frames.proofs.Facts.{modest-alone}
-use Rattle.signon.specs.Answers.{answerOf}
+use Rattle.card_for_c.specs.Answers.{answerOf}
 use Rattle.signon.proofs.Numbers.{frame-numbers}
 use Rattle.signon.proofs.read.read_for_c.Statement.{statement}
 use Rattle.signon.proofs.read.read_for_c.Tie as tie

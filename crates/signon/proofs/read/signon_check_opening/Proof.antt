@@ -3,7 +3,7 @@ use mathlib.Core.Path.{sym, ap, _∙_}
 use native.Mathlib.Omega.{arith}
 use borrow.Author.Needs.{needs}
 use Rattle.refusals.specs.Told.{means}
-use Rattle.signon.specs.Answers.{answerOf}
+use Rattle.card_for_c.specs.Answers.{answerOf}
 use Rattle.signon.proofs.Numbers.{place-fits, place-told, no-place-told}
 use Rattle.readers.proofs.OpeningLaws.{opening-told}
 use Rattle.signon.proofs.read.signon_check_opening.Statement.{statement}

@@ -1,5 +1,5 @@
 -- `signon::session::signon_begin` meets its contract: a walk through its MIR, written by tools/thin.py. The record's borrow is opened, the record is copied out,
--- `signon::steps::begin_for_c` is called, the next record is stored, and the borrow is closed at it.
+-- `card_for_c::steps::begin_for_c` is called, the next record is stored, and the borrow is closed at it.
 use mathlib.Core.Path.{_≡_, refl, ap}
 use Prim.Native.Nat.{ℕ}
 use mathlib.Core.List.{[], _∷_, List}
@@ -41,19 +41,19 @@ use denote.Triple.Table.{entered, cited}
 use denote.Triple.Clauses.{ensured, lasts}
 use denote.Triple.Walked.{says, Stays, stay-ref, stay-dropped, gave-slice, walkOf, AllGo, goes-ref, goes-dropped, goes-gave-slice, Walks, ends-at, walked, walk-meets}
 use Rattle.card_rules.specs.Keys.{keys}
-use Rattle.signon.specs.Card.{BeginForC}
+use Rattle.card_for_c.specs.Card.{BeginForC}
 use Rattle.card_rules.specs.declared.session.Session.{Session}
-use Rattle.signon.specs.declared.steps.Stepped.{Stepped}
+use Rattle.card_for_c.specs.declared.steps.Stepped.{Stepped}
 use Rattle.card_rules.proofs.session.Session as T
 use Rattle.card_rules.proofs.session.Session.Laws as T′
-use Rattle.signon.proofs.steps.Stepped as An
-use Rattle.signon.proofs.steps.Stepped.Laws as An′
-use Rattle.signon.proofs.Answer as To
-use Rattle.signon.proofs.Answer.Laws as To′
-use Rattle.signon.proofs.steps.begin_for_c as step
-use Rattle.signon.proofs.steps.begin_for_c.Symbol as step-def
-use Rattle.signon.proofs.steps.begin_for_c.Symbol.{name as #step}
-use Rattle.signon.proofs.steps.begin_for_c.Met as step-thm
+use Rattle.card_for_c.proofs.steps.Stepped as An
+use Rattle.card_for_c.proofs.steps.Stepped.Laws as An′
+use Rattle.card_for_c.proofs.Answer as To
+use Rattle.card_for_c.proofs.Answer.Laws as To′
+use Rattle.card_for_c.proofs.steps.begin_for_c as step
+use Rattle.card_for_c.proofs.steps.begin_for_c.Symbol as step-def
+use Rattle.card_for_c.proofs.steps.begin_for_c.Symbol.{name as #step}
+use Rattle.card_for_c.proofs.steps.begin_for_c.Met as step-thm
 use Rattle.signon.proofs.session.signon_begin.Key.{name as #thin}
 use Rattle.signon.proofs.session.signon_begin as thin
 use Rattle.signon.proofs.session.signon_begin.Statement as stated
@@ -179,4 +179,4 @@ signon-begin-spec 𝓤 H 𝓜 𝓖 𝓡 =
     entered 𝓤 H (tripleOf 𝓤 H (𝓖 .A) thin.signature (thin.spec 𝓤 H (𝓖 .A) (𝓜 .mem) (𝓡 .run)))
     (tables 𝓤 H 𝓜 𝓡 code.env .C) (tables 𝓤 H 𝓜 𝓡 code.env .Λ) #thin code.function (code.unfolded 𝓤 H 𝓜 𝓡)
     (thin-meets 𝓤 H (𝓖 .A) (givenOf 𝓤 H 𝓜 𝓖) (𝓜 .mem) (𝓡 .run) (tablesOf 𝓤 H 𝓜 (tables 𝓤 H 𝓜 𝓡 code.env))
-    (cited 𝓤 H (Step 𝓤 H (𝓖 .A) (𝓜 .mem) (𝓡 .run)) 𝓜 𝓡 code.env #step step-def.routine code.calls-signon·steps·begin-for-c (step-thm.met 𝓤 H 𝓜 𝓖 𝓡)))
+    (cited 𝓤 H (Step 𝓤 H (𝓖 .A) (𝓜 .mem) (𝓡 .run)) 𝓜 𝓡 code.env #step step-def.routine code.calls-card-for-c·steps·begin-for-c (step-thm.met 𝓤 H 𝓜 𝓖 𝓡)))

@@ -1,7 +1,7 @@
 -- `signon_verdict` hands on the answer of `verdict`, whose contract fixes all but how it is written.
 use mathlib.Core.Path.{ap, _∙_}
 use borrow.Author.Needs.{needs}
-use Rattle.signon.specs.Answers.{answerOf}
+use Rattle.card_for_c.specs.Answers.{answerOf}
 use Rattle.signon.proofs.verdict.signon_verdict.Statement.{statement}
 use Rattle.signon.proofs.verdict.signon_verdict.Tie as tie
 
