@@ -1,12 +1,12 @@
 // Begin: all commitments are written.
 use card_checks::order::check_begin;
+use card_rounds::commit_all;
 use card_rules::session::COMMITTED;
 use card_rules::session::Session;
 use card_steps::Step;
 use frames::wide;
 use kinds::Kind;
 use refusals::Checked;
-use rounds::card::commit_all;
 use writers::Written;
 use writers::put_heading;
 ghost use mathlib.Core.Path.{_≡_};

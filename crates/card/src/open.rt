@@ -1,6 +1,7 @@
 // Open: all openings are written once the card's own check has passed, and the choices are zeroed.
 use crate::give_up::zero;
 use card_checks::order::check_open;
+use card_rounds::open_all;
 use card_rules::session::CLOSED;
 use card_rules::session::Session;
 use card_steps::Step;
@@ -11,7 +12,6 @@ use refusals::Checked;
 use refusals::buffer::CHOICES;
 use refusals::number::SELF;
 use refusals::refuse;
-use rounds::card::open_all;
 use writers::Written;
 use writers::put_heading;
 ghost use mathlib.Core.Path.{_≡_};

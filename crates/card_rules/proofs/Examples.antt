@@ -11,7 +11,8 @@ use Rattle.algebra.specs.Lists.{tab, sumBelow, allBelow, firstFrom, count, stre
 use Rattle.algebra.specs.Permutations.{isPerm, permute}
 use Rattle.matrices.specs.Matrices.{rowTimes, keyFault}
 use Rattle.packed_bits.specs.PackedBits.{bitAt, unusedClear}
-use Rattle.frames.specs.Reading.{header, shape, values, permutations, reading}
+use Rattle.bodies.specs.Bodies.{values, permutations}
+use Rattle.frames.specs.Reading.{header, shape, reading}
 use Rattle.readers.specs.Choosing.{vectorOf, permutationOf, choiceCheck, choicesCheck}
 use Rattle.card_rules.specs.declared.session.Session.{Session}
 use Rattle.card_rules.specs.Stages.{IDLE, COMMITTED, ANSWERED, CLOSED}

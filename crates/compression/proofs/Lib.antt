@@ -1,3 +1,2 @@
 -- Laws of the compression.
-pub mod Choice
 pub mod Loops

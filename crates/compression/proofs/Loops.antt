@@ -9,7 +9,7 @@ use lib.ListN.{length, getD, take, set}
 use lib.Seq.{take-suc-set, getD-take}
 use Rattle.compression.specs.Constants.{K}
 use Rattle.compression.specs.Block.{W, wordOf, expandOf, turnsOf, turnOf}
-use Rattle.compression.specs.Operations.{wordAt}
+use Rattle.word32.specs.Operations.{wordAt}
 use Rattle.compression.specs.declared.Words.{Words}
 
 -- one word more of the schedule is stored

@@ -5,7 +5,7 @@ use Prim.Native.Nat.{ℕ, zero, suc, _-_, _*_}
 use lib.Dec.{ltb}
 use lib.ListN.{getD}
 use Rattle.compression.specs.declared.Words.{Words}
-use Rattle.compression.specs.Operations.{wordAt, _⊞_, Ch, Maj, Σ0, Σ1, σ0, σ1}
+use Rattle.word32.specs.Operations.{wordAt, _⊞_, Ch, Maj, Σ0, Σ1, σ0, σ1}
 use Rattle.compression.specs.Constants.{K}
 
 -- §6.2.2, 1: the message schedule. A word from the 16th on, of those 2, 7, 15 and 16 before it; word t of a block's schedule, where `before` has the

@@ -1,4 +1,3 @@
--- The compression of SHA-256 as FIPS 180-4 defines it: operations on words, constants, one block.
-pub mod Operations
+-- The compression of SHA-256 as FIPS 180-4 defines it: constants, one block.
 pub mod Constants
 pub mod Block

@@ -1,19 +1,18 @@
 // The compression of SHA-256: the hash value after one block more. FIPS 180-4, section 6.2.2, steps 1 to 4.
 use crate::constants::K;
-use crate::word::big_sigma_0;
-use crate::word::big_sigma_1;
-use crate::word::ch;
-use crate::word::maj;
-use crate::word::plus;
-use crate::word::small_sigma_0;
-use crate::word::small_sigma_1;
-use crate::word::word_at;
+use word32::big_sigma_0;
+use word32::big_sigma_1;
+use word32::ch;
+use word32::maj;
+use word32::plus;
+use word32::small_sigma_0;
+use word32::small_sigma_1;
+use word32::word_at;
 ghost use mathlib.Core.Path.{_≡_};
 ghost use lib.ListN.{length};
 ghost use Rattle.compression.specs.Block.{expandOf, W, turnOf, turnsOf, compressOf};
 
 pub mod constants;
-mod word;
 
 // The eight words of a hash value, or the eight working variables.
 pub struct Words {

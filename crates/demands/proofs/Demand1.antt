@@ -18,17 +18,17 @@ use Rattle.frames.specs.Reading.{Reads, openingCheck}
 use Rattle.writers.specs.Writing.{Writes}
 use Rattle.readers.proofs.Outcomes.{one-reading, one-opening-check}
 use Rattle.writers.proofs.Outcomes.{one-writing, refused-writes-nothing}
-use Rattle.draw.specs.declared.Taken.the-variants.{Refused as NotTaken}
-use Rattle.draw.specs.Telling.{Draws}
-use Rattle.draw.proofs.Outcomes.{one-drawing, refused-draws-nothing}
+use Rattle.draw_rules.specs.declared.Taken.the-variants.{Refused as NotTaken}
+use Rattle.draw_rules.specs.Telling.{Draws}
+use Rattle.draw_rules.proofs.Outcomes.{one-drawing, refused-draws-nothing}
 use Rattle.card_rules.specs.declared.session.Session.{Session}
 use Rattle.card_rules.specs.Keys.{Keys, ChecksKey}
 use Rattle.card_rules.proofs.Outcomes.{one-key-check}
 use Rattle.card_steps.specs.declared.Step.{Step}
 use Rattle.card_steps.specs.Steps.{BeginStep, AnswerStep, OpenStep, GiveUpStep}
 use Rattle.card_steps.proofs.Outcomes.{one-begin, refused-begin, one-answer, refused-answer, one-open, refused-open, one-give-up}
-use Rattle.register.specs.Verdict.{SignOn, Judges}
-use Rattle.register.proofs.Outcomes.{one-verdict}
+use Rattle.register_rules.specs.Verdict.{SignOn, Judges}
+use Rattle.register_rules.proofs.Outcomes.{one-verdict}
 use Rattle.stand_in.specs.Standing.{StandsIn}
 use Rattle.stand_in.proofs.Outcomes.{one-stand-in, refused-changes-nothing}
 

@@ -31,9 +31,9 @@ use Rattle.card_steps.specs.declared.Step.{Step}
 use Rattle.card_steps.specs.Steps.{commitmentsOf, BeginStep, answersOf, AnswerStep, openingsOf, OpenStep}
 use Rattle.card_steps.proofs.ReadBack.{ReadBack, honest-messages}
 use Rattle.card_steps.proofs.Written.{BeginWrote, begin-wrote, AnswerWrote, answer-wrote, OpenWrote, open-wrote}
-use Rattle.register.specs.Verdict.{SignOn, signOn, roundsIn, enough, messagesIn, roundPasses, judging}
-use Rattle.register.proofs.Facts.{ExchangeFits, FramesFit}
-use Rattle.register.proofs.Exact.{accepted←}
+use Rattle.register_rules.specs.Verdict.{SignOn, signOn, roundsIn, enough, messagesIn, roundPasses, judging}
+use Rattle.register_rules.proofs.Facts.{ExchangeFits, FramesFit}
+use Rattle.register_rules.proofs.Exact.{accepted←}
 
 -- ---- a frame that was written, once n and N are known
 

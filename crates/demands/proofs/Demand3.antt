@@ -23,7 +23,7 @@ use Rattle.card_rules.specs.Lent.{matrixOf, LentFits}
 use Rattle.stand_in.specs.Standing.{roundSize, standing, standInOf}
 use Rattle.stand_in.proofs.Facts.{stand-in-of, lent-passes}
 use Rattle.stand_in.proofs.Outcomes.{passed-tells}
-use Rattle.register.specs.Verdict.{messagesIn}
+use Rattle.register_rules.specs.Verdict.{messagesIn}
 use Rattle.demands.proofs.Demand2.{SignedOn, sentBy, lent, begun-facts, challenge-below, sent-messages}
 
 -- ---- for every key that the card's checks let pass, every challenge and both bits, the choices pair off

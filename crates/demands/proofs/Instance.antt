@@ -12,12 +12,13 @@ use Rattle.algebra.specs.Permutations.{isPerm, permute}
 use Rattle.matrices.specs.Matrices.{rowTimes, entry, productAt, keyFault}
 use Rattle.compression.specs.Constants.{H0, K}
 use Rattle.compression.specs.Block.{T1, T2, W, compressOf, expandOf, sumOf, turnOf, turnsOf, wordOf}
-use Rattle.compression.specs.Operations.{Ch, Maj, ROTR, wordAt, _⊞_, Σ0, Σ1, σ0, σ1}
+use Rattle.word32.specs.Operations.{Ch, Maj, ROTR, wordAt, _⊞_, Σ0, Σ1, σ0, σ1}
 use Rattle.sha256.specs.Standard.{blockAt, blockCount, bytes, bytesOf, bytesOfWords, digestOf, hashValue, pad, padding, zeros}
 use Rattle.kinds.specs.declared.Kind.the-variants.{Commitments, Challenges, Answers, Openings}
 use Rattle.writers.specs.declared.Written.the-variants.{Wrote}
 use Rattle.packed_bits.specs.PackedBits.{bitAt, unusedClear}
-use Rattle.frames.specs.Reading.{header, shape, values, permutations, reading, restOf}
+use Rattle.bodies.specs.Bodies.{values, permutations}
+use Rattle.frames.specs.Reading.{header, shape, reading, restOf}
 use Rattle.writers.specs.Writing.{frame}
 use Rattle.readers.specs.Choosing.{vectorOf, permutationOf, choiceCheck, choicesCheck}
 use Rattle.scheme.specs.Round.{calledFor, passes}
@@ -32,9 +33,9 @@ use Rattle.card_rules.proofs.Facts.{open-told}
 use Rattle.card_steps.specs.Steps.{beginTold, begun, commitmentsOf, answerTold, answered, answersOf, openRefusal, openTold, closed, openingsOf, zeroed, fresh}
 use Rattle.card_steps.proofs.Opening.{open-ready, own-fine}
 use Rattle.stand_in.specs.Standing.{standInOf}
-use Rattle.register.specs.Verdict.{SignOn, signOn, basisCheck, exchangeCheck, framesCheck, enough, messagesIn, judging}
-use Rattle.register.proofs.Facts.{frames-told}
-use Rattle.register.proofs.Exact.{Accepts, Fails, accepted→}
+use Rattle.register_rules.specs.Verdict.{SignOn, signOn, basisCheck, exchangeCheck, framesCheck, enough, messagesIn, judging}
+use Rattle.register_rules.proofs.Facts.{frames-told}
+use Rattle.register_rules.proofs.Exact.{Accepts, Fails, accepted→}
 use Rattle.demands.proofs.Demand2.{SignedOn, sentBy, lent, honest-card-accepted}
 use Rattle.demands.proofs.Demand3.{choices-pair-off, partner, same-round}
 

@@ -15,11 +15,12 @@ use Rattle.kinds.specs.declared.Kind.the-variants.{Challenges, Bits}
 use Rattle.kinds.specs.Kinds.{within, alone}
 use Rattle.packed_bits.specs.PackedBits.{bitAt}
 use Rattle.packed_bits.specs.Clearing.{cleared}
-use Rattle.frames.specs.Reading.{header, shape, values, permutations, reading, restOf}
+use Rattle.bodies.specs.Bodies.{values, permutations}
+use Rattle.frames.specs.Reading.{header, shape, reading, restOf}
 use Rattle.writers.specs.Writing.{frame}
 use Rattle.random.specs.Sequences.{listOf, manyTimes, oneBelow}
-use Rattle.draw.specs.Making.{drawChallenges, drawBits}
-use Rattle.draw.specs.Telling.{bare, telling}
+use Rattle.draw_rules.specs.Making.{drawChallenges, drawBits}
+use Rattle.draw_rules.specs.Telling.{bare, telling}
 use Rattle.scheme.specs.Round.{pair, firstAnswer}
 use Rattle.card_rules.specs.Keys.{keys, keysCheck, validCheck, keyCheck}
 

@@ -11,8 +11,8 @@ use refusals::buffer::COMMITMENTS;
 use refusals::buffer::OPENINGS;
 use refusals::buffer::PUBLIC;
 use refusals::buffer::SYSTEM;
-use register::Verdict;
 use register::decide::verdict;
+use register_rules::Verdict;
 
 const GRADE_AT: usize = 2;
 

@@ -5,7 +5,7 @@ use desk_files::load::open_source;
 use desk_files::save::NOTHING;
 use desk_files::save::save_three;
 use desk_files::slots::file;
-use draw::Taken;
+use draw_rules::Taken;
 use hosting::bytes::behind;
 use hosting::text::say;
 use hosting::text::say_with;

@@ -1,14 +1,14 @@
 // The card's choices: for each round R and then sigma.
-use crate::Taken;
 use crate::places_fit;
 use crate::refuse;
 use algebra::LONGEST;
 use algebra::MODULUS;
+use draw_rules::Taken;
 use kinds::Limits;
 use kinds::within;
-use random::draw::Used;
-use random::draw::measure_permutation;
-use random::draw::write_permutation;
+use random::crate::Used;
+use random::crate::measure_permutation;
+use random::crate::write_permutation;
 use random::sequence::measure_below;
 use random::sequence::write_below;
 use refusals::buffer::NONE;
@@ -23,8 +23,8 @@ ghost use lib.ListN.{length};
 ghost use Rattle.algebra.specs.Permutations.{longest};
 ghost use Rattle.random.specs.Drawings.{usedBy, drawnOver, Enough};
 ghost use Rattle.readers.specs.Choosing.{choiceSize};
-ghost use Rattle.draw.specs.Making.{drawChoice, drawChoices};
-ghost use Rattle.draw.specs.Telling.{bare, choicesFit, Draws};
+ghost use Rattle.draw_rules.specs.Making.{drawChoice, drawChoices};
+ghost use Rattle.draw_rules.specs.Telling.{bare, choicesFit, Draws};
 
 // Whether n is 2 to 64, and N 1 to the greatest.
 fn choices_fit(greatest: usize, n: usize, rounds: usize) -> bool

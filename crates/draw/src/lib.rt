@@ -1,4 +1,5 @@
 // Drawing from lent bytes. Each call measures first and writes then, so that bytes that run out leave the output as it was.
+use draw_rules::Taken;
 use kinds::Kind;
 use kinds::alone;
 use kinds::size_of;
@@ -9,17 +10,11 @@ ghost use mathlib.Core.Path.{_≡_};
 ghost use Prim.Native.Nat.{_≤_, _<_};
 ghost use Rattle.algebra.specs.Permutations.{longest};
 ghost use Rattle.kinds.specs.Kinds.{within, alone, frameSize};
-ghost use Rattle.draw.specs.Telling.{refusal};
+ghost use Rattle.draw_rules.specs.Telling.{refusal};
 
 pub mod choices;
 pub mod messages;
 pub mod permutation;
-
-// What a drawing answers: the random bytes used, skipped ones counted.
-pub enum Taken {
-    Bytes(usize),
-    Refused(Refusal),
-}
 
 // A refusal, as the answer of a drawing.
 pub fn refuse(number: u8, buffer: u8, place: usize) -> Taken

@@ -1,14 +1,14 @@
 // The register's messages: challenges and bits, as frames.
-use crate::Taken;
 use crate::frame_size;
 use crate::refuse;
 use crate::rounds_fit;
 use algebra::LONGEST;
 use algebra::MODULUS;
+use draw_rules::Taken;
 use kinds::Kind;
 use kinds::size_of;
 use packed_bits::clear_unused;
-use random::draw::Used;
+use random::crate::Used;
 use random::sequence::measure_below;
 use random::sequence::write_below;
 use refusals::buffer::NONE;
@@ -26,8 +26,8 @@ ghost use Rattle.random.specs.Drawings.{drawnOver, Enough};
 ghost use Rattle.kinds.specs.Kinds.{alone, within, frameSize};
 ghost use Rattle.packed_bits.specs.Clearing.{packedSize};
 ghost use Rattle.random.specs.Sequences.{someBelow, byteLimit, drawResidues};
-ghost use Rattle.draw.specs.Making.{drawChallenges, drawBits};
-ghost use Rattle.draw.specs.Telling.{bare, Draws};
+ghost use Rattle.draw_rules.specs.Making.{drawChallenges, drawBits};
+ghost use Rattle.draw_rules.specs.Telling.{bare, Draws};
 
 // Every byte is below this.
 const BYTE_LIMIT: u32 = 256;

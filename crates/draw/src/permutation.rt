@@ -1,8 +1,8 @@
 // A permutation.
-use crate::Taken;
 use crate::places_fit;
 use crate::refuse;
-use random::draw::Used;
+use draw_rules::Taken;
+use random::crate::Used;
 use refusals::buffer::NONE;
 use refusals::buffer::OUTPUT;
 use refusals::buffer::RANDOM;
@@ -11,7 +11,7 @@ use refusals::number::ROOM;
 use refusals::number::SHAPE;
 ghost use Rattle.random.specs.Drawings.{drawPermutation};
 ghost use Rattle.kinds.specs.Kinds.{alone, within};
-ghost use Rattle.draw.specs.Telling.{bare, Draws};
+ghost use Rattle.draw_rules.specs.Telling.{bare, Draws};
 
 // Draws a permutation of n.
 pub fn draw_permutation(n: usize, random: &[u8], out: &mut [u8]) -> Taken
@@ -23,7 +23,7 @@ pub fn draw_permutation(n: usize, random: &[u8], out: &mut [u8]) -> Taken
     if out.len() < n {
         return refuse(ROOM, OUTPUT, n);
     }
-    match random::draw::draw_permutation(random, 0, n, out) {
+    match random::crate::draw_permutation(random, 0, n, out) {
         Used::RanOut => refuse(DRAW, RANDOM, random.len()),
         Used::To(used) => Taken::Bytes(used),
     }

@@ -20,7 +20,8 @@ use Rattle.kinds.specs.declared.Expected.{Expected}
 use Rattle.frames.specs.declared.read.Read.{Read}
 use Rattle.frames.specs.declared.read.Read.the-variants.{Frame}
 use Rattle.kinds.specs.Kinds.{limits, within, alone, Modest, table, fits}
-use Rattle.frames.specs.Reading.{countOf, header, firstOf, secondOf, restOf, spareClear, shape, content, reading, readMeans, Reads}
+use Rattle.bodies.specs.Bodies.{spareClear, content}
+use Rattle.frames.specs.Reading.{countOf, header, firstOf, secondOf, restOf, shape, reading, readMeans, Reads}
 use Rattle.frames.proofs.Orders.{headed, spare-decides}
 
 -- ---- the header

@@ -15,7 +15,8 @@ use Rattle.kinds.specs.declared.Expected.{Expected}
 use Rattle.frames.specs.declared.read.Read.{Read}
 use Rattle.frames.specs.declared.read.Read.the-variants.{Frame, Refused}
 use Rattle.kinds.specs.Kinds.{table, fits}
-use Rattle.frames.specs.Reading.{countOf, header, firstOf, secondOf, restOf, spareClear, shape, content, readMeans}
+use Rattle.bodies.specs.Bodies.{spareClear, content}
+use Rattle.frames.specs.Reading.{countOf, header, firstOf, secondOf, restOf, shape, readMeans}
 
 -- ---- the header; b is the kind's buffer
 

@@ -2,7 +2,6 @@
 ghost use mathlib.Core.Path.{_≡_};
 ghost use Prim.Native.Nat.{_<_};
 
-pub mod body;
 pub mod read;
 
 // A byte, as a number to count with.

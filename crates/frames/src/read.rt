@@ -1,7 +1,7 @@
 // Readers: the header, then SHAPE, then the bytes in order.
-use crate::body::check_content;
-use crate::body::spare_clear;
 use crate::wide;
+use bodies::check_content;
+use bodies::spare_clear;
 use kinds::Expected;
 use kinds::Kind;
 use kinds::buffer_of;

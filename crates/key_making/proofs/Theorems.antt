@@ -12,7 +12,7 @@ use Rattle.kinds.specs.declared.Kind.the-variants.{Public, Secret}
 use Rattle.readers.proofs.Passing.{residues-pass, permutation-passes}
 use Rattle.writers.specs.Writing.{frame}
 use Rattle.random.proofs.Sequences.{Always}
-use Rattle.draw.proofs.Theorems.{source, Accepted, accepted}
+use Rattle.draw_rules.proofs.Theorems.{source, Accepted, accepted}
 use Rattle.key_making.specs.Key.{publicKey, keyFrames, drawPair, drawKey}
 use Rattle.key_making.proofs.Making.{DrawnPair, pair-drawn, length-publicKey, place-fits}
 

@@ -2,9 +2,9 @@
 use algebra::LONGEST;
 use algebra::MODULUS;
 use algebra::permutation::unpermute_into;
-use draw::Taken;
 use draw::frame_size;
 use draw::refuse;
+use draw_rules::Taken;
 use frames::read::Read;
 use kinds::Kind;
 use matrices::complete;
@@ -33,7 +33,7 @@ ghost use Rattle.frames.specs.Reading.{firstOf, reading};
 ghost use Rattle.writers.specs.Writing.{frame};
 ghost use Rattle.random.specs.Sequences.{listOf};
 ghost use Rattle.key_making.specs.Key.{publicKey, drawPair, drawKey, drawKeyFor, keySize};
-ghost use Rattle.draw.specs.Telling.{Draws};
+ghost use Rattle.draw_rules.specs.Telling.{Draws};
 
 // Makes a key for the system: kind 2 and then kind 3.
 pub fn make_key(system: &[u8], random: &[u8], out: &mut [u8]) -> Taken

@@ -17,7 +17,7 @@ use Rattle.algebra.specs.Lists.{stretch}
 use Rattle.algebra.specs.Residues.{modulus, Residues}
 use Rattle.algebra.specs.Permutations.{isPerm, IsPerm}
 use Rattle.algebra.proofs.Permutations.{apart, isPerm→}
-use Rattle.frames.specs.Reading.{residueAt, values, permutationAt, permutations}
+use Rattle.bodies.specs.Bodies.{residueAt, values, permutationAt, permutations}
 use Rattle.readers.specs.Choosing.{choiceSize, choiceOf, vectorOf, permutationOf, choiceCheck, choiceAt, choicesCheck}
 use Rattle.frames.proofs.Facts.{test-holds, rest-done}
 use Rattle.readers.proofs.Passing.{residues-pass}

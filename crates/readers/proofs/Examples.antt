@@ -12,7 +12,8 @@ use Rattle.kinds.specs.declared.Kind.{Kind}
 use Rattle.kinds.specs.declared.Kind.the-variants.{System, Public, Secret, Commitments, Challenges, Answers, Bits, Openings}
 use Rattle.kinds.specs.Kinds.{limits, alone}
 use Rattle.packed_bits.specs.PackedBits.{bitAt, unusedClear}
-use Rattle.frames.specs.Reading.{header, shape, values, permutations, reading, openingCheck, openingOf}
+use Rattle.bodies.specs.Bodies.{values, permutations}
+use Rattle.frames.specs.Reading.{header, shape, reading, openingCheck, openingOf}
 use Rattle.readers.specs.Choosing.{vectorOf, permutationOf, choiceCheck, choicesCheck}
 
 -- a reading of a frame alone

@@ -19,7 +19,8 @@ use Rattle.kinds.specs.declared.Expected.{Expected}
 use Rattle.frames.specs.declared.read.Read.{Read}
 use Rattle.frames.specs.declared.read.Read.the-variants.{Frame, Refused}
 use Rattle.kinds.specs.Kinds.{alone, table}
-use Rattle.frames.specs.Reading.{countOf, header, firstOf, secondOf, restOf, shape, residueAt, values, permutationAt, permutations, content, reading, readMeans, Reads, openingCheck}
+use Rattle.bodies.specs.Bodies.{residueAt, values, permutationAt, permutations, content}
+use Rattle.frames.specs.Reading.{countOf, header, firstOf, secondOf, restOf, shape, reading, readMeans, Reads, openingCheck}
 use Rattle.readers.specs.Choosing.{choiceSize, choiceOf, vectorOf, permutationOf, choiceCheck, choiceAt, choicesCheck}
 
 -- ---- readers: they write nothing

@@ -20,10 +20,11 @@ use Rattle.algebra.proofs.Lists.{from-stretch}
 use Rattle.algebra.proofs.Permutations.{isPerm←}
 use Rattle.kinds.specs.declared.Kind.the-variants.{System}
 use Rattle.kinds.specs.Kinds.{alone}
-use Rattle.frames.specs.Reading.{firstOf, secondOf, restOf, residueAt, values, permutationAt, permutations}
+use Rattle.bodies.specs.Bodies.{residueAt, values, permutationAt, permutations}
+use Rattle.frames.specs.Reading.{firstOf, secondOf, restOf}
 use Rattle.readers.specs.Choosing.{choiceSize, choiceOf, vectorOf, permutationOf, choiceCheck, choiceAt, choicesCheck}
 use Rattle.frames.proofs.Facts.{FrameFits, first-within, second-within, rest-length}
-use Rattle.frames.proofs.Loops.{residue-fine}
+use Rattle.bodies.proofs.Loops.{residue-fine}
 
 pub residues-pass : (b at : ℕ) (l : List ℕ) → Residues modulus l → values b at l ≡ fine
 unfolding values

@@ -7,7 +7,7 @@ use Rattle.refusals.specs.Number.{SHAPE}
 use Rattle.refusals.specs.Buffer.{CHOICES}
 use Rattle.refusals.specs.Told.{Told, first, firstBelow, demand}
 use Rattle.algebra.specs.Lists.{stretch}
-use Rattle.frames.specs.Reading.{values, permutations}
+use Rattle.bodies.specs.Bodies.{values, permutations}
 
 -- the choices of one round
 abbrev pub choiceSize : ℕ → ℕ

@@ -1,6 +1,6 @@
 // The choices of a card: for each round R and then sigma.
-use frames::body::check_permutations;
-use frames::body::check_values;
+use bodies::check_permutations;
+use bodies::check_values;
 use refusals::Checked;
 use refusals::buffer::CHOICES;
 use refusals::number::SHAPE;

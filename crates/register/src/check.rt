@@ -11,7 +11,7 @@ ghost use mathlib.Core.Path.{_≡_};
 ghost use Prim.Native.Nat.{_≤_};
 ghost use Rattle.refusals.specs.Told.{means};
 ghost use Rattle.algebra.specs.Permutations.{longest};
-ghost use Rattle.register.specs.Verdict.{signOn, basisCheck, exchangeCheck, framesCheck};
+ghost use Rattle.register_rules.specs.Verdict.{signOn, basisCheck, exchangeCheck, framesCheck};
 
 // The system, the public key and the commitments, which fix n and N.
 fn check_basis(system: &[u8], key: &[u8], commitments: &[u8]) -> Checked

@@ -1,5 +1,4 @@
 // The verdict: the frames, then the grade, then the rounds.
-use crate::Verdict;
 use crate::check::check_frames;
 use crate::grade::enough;
 use frames::wide;
@@ -11,9 +10,10 @@ use refusals::buffer::OPENINGS;
 use refusals::number::FIRST;
 use refusals::number::SECOND;
 use refusals::number::WEAK;
-use rounds::register::first_failing;
+use register_rules::Verdict;
+use rounds::crate::first_failing;
 ghost use mathlib.Core.Path.{_≡_};
-ghost use Rattle.register.specs.Verdict.{signOn, SignOnFits, roundsPassed, numberOf, roundsCheck, verdictMeans, Judges};
+ghost use Rattle.register_rules.specs.Verdict.{signOn, SignOnFits, roundsPassed, numberOf, roundsCheck, verdictMeans, Judges};
 
 // The first round that does not pass, N where all do.
 fn rounds_passed(

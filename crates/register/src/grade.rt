@@ -1,6 +1,6 @@
 // The grades, and how many rounds each needs.
 ghost use mathlib.Core.Path.{_≡_};
-ghost use Rattle.register.specs.Verdict.{enough};
+ghost use Rattle.register_rules.specs.Verdict.{enough};
 
 const INSPECTOR: usize = 1;
 

@@ -1,11 +1,11 @@
 // The words of a line.
-use draw::Taken;
+use draw_rules::Taken;
 use frames::read::Read;
 use frames::wide;
 use libc::STDOUT_FILENO;
 use refusals::Checked;
 use refusals::Refusal;
-use register::Verdict;
+use register_rules::Verdict;
 use writers::Written;
 
 // The most bytes that are printed one by one.

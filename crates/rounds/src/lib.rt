@@ -1,4 +1,3 @@
-// N rounds side by side: round k's stretch of the choices and of each message, and the loops over them.
-pub mod card;
+// N rounds side by side: round k's stretch of the choices and of each message, and the register's loop over them.
 pub mod layout;
 pub mod register;

@@ -12,7 +12,8 @@ use Rattle.sha256.specs.Call.{LONGEST, toldOf}
 use Rattle.sha256.proofs.Call.{told-long}
 use Rattle.kinds.specs.declared.Kind.the-variants.{System, Public, Challenges}
 use Rattle.kinds.specs.Kinds.{alone}
-use Rattle.frames.specs.Reading.{header, shape, values, permutations, reading, openingCheck}
+use Rattle.bodies.specs.Bodies.{values, permutations}
+use Rattle.frames.specs.Reading.{header, shape, reading, openingCheck}
 use Rattle.card_for_c.specs.declared.Answer.{Answer}
 use Rattle.card_for_c.specs.Answers.{answerOf}
 use Rattle.signon.specs.Calls.{hashTold, openingTold}

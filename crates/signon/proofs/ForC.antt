@@ -13,9 +13,9 @@ use Rattle.kinds.specs.declared.Kind.{Kind}
 use Rattle.writers.specs.declared.Written.{Written}
 use Rattle.writers.specs.declared.Written.the-variants.{Wrote, Refused}
 use Rattle.writers.specs.Writing.{writtenMeans, outAfter, Writes}
-use Rattle.draw.specs.declared.Taken.{Taken}
-use Rattle.draw.specs.declared.Taken.the-variants.{Bytes, Refused as NotTaken}
-use Rattle.draw.specs.Telling.{takenMeans, drawnAfter, Draws}
+use Rattle.draw_rules.specs.declared.Taken.{Taken}
+use Rattle.draw_rules.specs.declared.Taken.the-variants.{Bytes, Refused as NotTaken}
+use Rattle.draw_rules.specs.Telling.{takenMeans, drawnAfter, Draws}
 use Rattle.stand_in.specs.Standing.{StandsIn}
 use Rattle.card_for_c.specs.declared.Answer.{Answer}
 use Rattle.card_for_c.specs.Answers.{answerOf, Held}

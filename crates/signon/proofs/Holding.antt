@@ -16,14 +16,14 @@ use Rattle.writers.specs.Writing.{writing}
 use Rattle.writers.proofs.Outcomes.{room-most, room-one, writing-most, writing-one}
 use Rattle.frames.proofs.Facts.{reading-told, numbers-small}
 use Rattle.readers.proofs.Outcomes.{reading-most, opening-most}
-use Rattle.draw.specs.Telling.{telling}
-use Rattle.draw.proofs.Outcomes.{telling-most, telling-one}
+use Rattle.draw_rules.specs.Telling.{telling}
+use Rattle.draw_rules.proofs.Outcomes.{telling-most, telling-one}
 use Rattle.stand_in.specs.Standing.{standing}
 use Rattle.stand_in.proofs.Outcomes.{standing-most, standing-one}
 use Rattle.card_rules.specs.Keys.{Keys, keyCheck}
 use Rattle.card_rules.proofs.Outcomes.{key-most, key-none}
-use Rattle.register.specs.Verdict.{SignOn, judging}
-use Rattle.register.proofs.Outcomes.{judging-most, judging-one}
+use Rattle.register_rules.specs.Verdict.{SignOn, judging}
+use Rattle.register_rules.proofs.Outcomes.{judging-most, judging-one}
 use Rattle.card_for_c.specs.Answers.{Held}
 use Rattle.card_for_c.proofs.Holding.{none, one, held-one, held-none}
 use Rattle.signon.specs.Calls.{digestSize, hashTold, openingPlace, openingTold}

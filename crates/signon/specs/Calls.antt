@@ -16,7 +16,7 @@ use Rattle.kinds.specs.declared.Kind.the-variants.{Openings}
 use Rattle.kinds.specs.Kinds.{alone, table}
 use Rattle.frames.specs.Reading.{firstOf, reading, openingCheck}
 use Rattle.writers.specs.Writing.{frame, writing}
-use Rattle.draw.specs.Telling.{telling}
+use Rattle.draw_rules.specs.Telling.{telling}
 use Rattle.stand_in.specs.Standing.{standing, standInOf, roundBytes}
 use Rattle.card_for_c.specs.declared.Answer.{Answer}
 use Rattle.card_for_c.specs.Answers.{answerOf, ifDone}

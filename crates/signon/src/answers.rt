@@ -2,13 +2,13 @@
 use card_for_c::Answer;
 use card_for_c::answers::refusal;
 use card_for_c::answers::success;
-use draw::Taken;
+use draw_rules::Taken;
 use refusals::Checked;
-use register::Verdict;
+use register_rules::Verdict;
 ghost use mathlib.Core.Path.{_≡_};
 ghost use Rattle.refusals.specs.Told.{means};
-ghost use Rattle.draw.specs.Telling.{takenMeans};
-ghost use Rattle.register.specs.Verdict.{verdictMeans};
+ghost use Rattle.draw_rules.specs.Telling.{takenMeans};
+ghost use Rattle.register_rules.specs.Verdict.{verdictMeans};
 ghost use Rattle.card_for_c.specs.Answers.{answerOf};
 
 // The answer of a check.

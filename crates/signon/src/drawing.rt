@@ -11,8 +11,8 @@ ghost use Rattle.algebra.specs.Permutations.{longest};
 ghost use Rattle.random.specs.Drawings.{drawPermutation};
 ghost use Rattle.readers.specs.Choosing.{choiceSize};
 ghost use Rattle.kinds.specs.Kinds.{alone, within, frameSize};
-ghost use Rattle.draw.specs.Making.{drawChallenges, drawBits, drawChoices};
-ghost use Rattle.draw.specs.Telling.{bare, choicesFit};
+ghost use Rattle.draw_rules.specs.Making.{drawChallenges, drawBits, drawChoices};
+ghost use Rattle.draw_rules.specs.Telling.{bare, choicesFit};
 ghost use Rattle.signon.specs.Calls.{DrawForC};
 
 // A permutation of n.

@@ -3,7 +3,7 @@ use crate::answers::of_verdict;
 use card_for_c::Answer;
 use register::decide::verdict;
 ghost use mathlib.Core.Path.{_≡_};
-ghost use Rattle.register.specs.Verdict.{signOn, judging};
+ghost use Rattle.register_rules.specs.Verdict.{signOn, judging};
 ghost use Rattle.card_for_c.specs.Answers.{answerOf};
 
 // A success answers N.

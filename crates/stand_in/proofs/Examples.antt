@@ -7,7 +7,8 @@ use Rattle.refusals.specs.Buffer.{NONE, SYSTEM, PUBLIC, CHOICES, OUTPUT}
 use Rattle.refusals.specs.Told.{Told, done, refused, firstBelow}
 use Rattle.algebra.specs.Lists.{allBelow, count, stretch}
 use Rattle.algebra.specs.Permutations.{isPerm}
-use Rattle.frames.specs.Reading.{header, shape, values, permutations, reading}
+use Rattle.bodies.specs.Bodies.{values, permutations}
+use Rattle.frames.specs.Reading.{header, shape, reading}
 use Rattle.readers.specs.Choosing.{vectorOf, permutationOf, choiceCheck, choicesCheck}
 use Rattle.stand_in.specs.Standing.{lentCheck, standing}
 

@@ -1,14 +1,12 @@
 -- Laws of the order of refusals, an answer each, as the code finds them.
 use mathlib.Core.Path.{_≡_}
-use mathlib.Core.List.{List, [], _∷_}
+use mathlib.Core.List.{List}
 use Prim.Native.Nat.{ℕ, _≤_, _<_}
-use native.Mathlib.Omega.{arith}
-use borrow.Author.Tests.{lt-ltb, le-ltb, lt-leb, le-leb}
-use lib.Dec.{leb}
+use borrow.Author.Tests.{lt-ltb, le-ltb}
 use Rattle.refusals.specs.declared.Refusal.{Refusal}
-use Rattle.refusals.specs.Number.{SHAPE, ROOM}
-use Rattle.refusals.specs.Buffer.{NONE, OUTPUT}
-use Rattle.refusals.specs.Told.{Told, done, refused, told, first, demand}
+use Rattle.refusals.specs.Number.{SHAPE}
+use Rattle.refusals.specs.Buffer.{NONE}
+use Rattle.refusals.specs.Told.{Told, refused, told}
 use Rattle.algebra.specs.Residues.{modulus}
 use Rattle.kinds.specs.declared.Kind.the-variants.{System, Public}
 use Rattle.frames.specs.declared.read.Read.{Read}
@@ -17,7 +15,7 @@ use Rattle.kinds.specs.Kinds.{alone, ofPlaces}
 use Rattle.frames.specs.Reading.{firstOf, Reads}
 use Rattle.readers.specs.Choosing.{choicesCheck}
 use Rattle.frames.proofs.Orders.{frame-goes-on, frame-stops}
-use Rattle.stand_in.specs.Standing.{lentCheck, roundSize}
+use Rattle.stand_in.specs.Standing.{lentCheck}
 
 -- ---- what is lent
 
@@ -44,12 +42,3 @@ module _ (c bit : ℕ) (system key lent : List ℕ) where
         pub choices-decide : (x y z : ℕ) → q ≡ Frame x y z → (t : Told) → t ≡ choicesCheck (firstOf system) 1 lent → t ≡ lentCheck c bit system key lent
         unfolding lentCheck
         choices-decide x y z f t d = rw (lt-ltb c modulus h, lt-ltb bit 2 l) (frame-goes-on (m .says) e (frame-goes-on (k .says) f d))
-
--- ---- ROOM; `need` is what the code works out
-
-module _ (n need room : ℕ) (e : need ≡ roundSize n) where
-  pub no-room : room < need → refused ROOM OUTPUT need ≡ first (demand (leb (roundSize n) room) ROOM OUTPUT (roundSize n)) (done (roundSize n ∷ []))
-  no-room l = let m : room < roundSize n = omega arith in rw (lt-leb (roundSize n) room m, e)
-
-  pub room-enough : need ≤ room → done (need ∷ []) ≡ first (demand (leb (roundSize n) room) ROOM OUTPUT (roundSize n)) (done (roundSize n ∷ []))
-  room-enough l = let m : roundSize n ≤ room = omega arith in rw (le-leb (roundSize n) room m, e)

@@ -1,7 +1,7 @@
 // The verdict program: reads a grade byte and the frames of kinds 1, 2 and 4 to 8 end to end, and prints the verdict as one line.
 use crate::tell::tell;
 use libc::STDIN_FILENO;
-use register::cut::judge;
+use register_input::judge;
 
 mod tell;
 

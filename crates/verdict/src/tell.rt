@@ -2,7 +2,7 @@
 use frames::wide;
 use libc::STDOUT_FILENO;
 use refusals::Refusal;
-use register::Verdict;
+use register_rules::Verdict;
 
 fn tell_number(x: usize) {
     io::write_all(STDOUT_FILENO, b" ");

@@ -8,7 +8,7 @@ use Rattle.algebra.specs.Lists.{allBelow, count, stretch}
 use Rattle.algebra.specs.Permutations.{isPerm}
 use Rattle.packed_bits.specs.PackedBits.{bitAt, unusedClear}
 use Rattle.kinds.specs.declared.Kind.the-variants.{System, Bits, Openings}
-use Rattle.frames.specs.Reading.{values, permutations}
+use Rattle.bodies.specs.Bodies.{values, permutations}
 use Rattle.writers.specs.Writing.{frame, plainCheck, writing}
 
 -- n = 4, m = 2, A' = (1, 2, 3, 250); nine bits; two permutations of two

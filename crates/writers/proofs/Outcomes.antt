@@ -12,7 +12,7 @@ use Rattle.refusals.specs.Told.{Told, done, refused, first, demand}
 use Rattle.refusals.proofs.Chain.{UpTo, first-done, ends-done, done-most, demand-most, first-most, test-most, most-more}
 use Rattle.kinds.specs.declared.Kind.{Kind}
 use Rattle.kinds.specs.Kinds.{alone, table, fits, frameSize}
-use Rattle.frames.specs.Reading.{spareClear, content}
+use Rattle.bodies.specs.Bodies.{spareClear, content}
 use Rattle.readers.proofs.Outcomes.{content-most}
 use Rattle.writers.specs.declared.Written.{Written}
 use Rattle.writers.specs.declared.Written.the-variants.{Wrote, Refused}

@@ -21,7 +21,8 @@ use Rattle.kinds.specs.declared.Expected.{Expected}
 use Rattle.kinds.specs.Kinds.{alone, table, fits, frameSize}
 use Rattle.packed_bits.specs.PackedBits.{Bytes}
 use Rattle.writers.specs.Values.{cut, valuesOf}
-use Rattle.frames.specs.Reading.{firstOf, secondOf, restOf, spareClear, values, permutations, content, reading}
+use Rattle.bodies.specs.Bodies.{spareClear, values, permutations, content}
+use Rattle.frames.specs.Reading.{firstOf, secondOf, restOf, reading}
 use Rattle.writers.specs.Writing.{frame, plainCheck, writing}
 use Rattle.frames.proofs.Facts.{Headed, FrameFits, second-within, rest-length, fits-read}
 use Rattle.readers.proofs.Passing.{residues-pass, permutations-pass}

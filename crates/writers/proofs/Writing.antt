@@ -21,7 +21,7 @@ use Rattle.algebra.proofs.Lists.{over-behind}
 use Rattle.kinds.specs.declared.Kind.{Kind}
 use Rattle.kinds.specs.declared.Kind.the-variants.{System, Public, Secret, Commitments, Challenges, Answers, Bits, Openings}
 use Rattle.kinds.specs.Kinds.{alone, table, fits, frameSize}
-use Rattle.frames.specs.Reading.{spareClear, content}
+use Rattle.bodies.specs.Bodies.{spareClear, content}
 use Rattle.writers.specs.Writing.{heading, frame, plainCheck}
 use Rattle.frames.proofs.Facts.{test-holds, rest-done}
 
@@ -117,11 +117,11 @@ plain-told k a b plain v e =
       spare = demand-done t4 SHAPE (table k .buffer) 0 v (p .1);
     }
 
--- ---- ROOM; `need` is what the code works out
+-- ---- ROOM, before `size` bytes are written; `need` is what the code works out
 
-module _ (k : Kind) (a b need room : ℕ) (e : need ≡ frameSize k a b) where
-  pub no-room : room < need → refused ROOM OUTPUT need ≡ first (demand (leb (frameSize k a b) room) ROOM OUTPUT (frameSize k a b)) (done (frameSize k a b ∷ []))
-  no-room l = let m : room < frameSize k a b = omega arith in rw (lt-leb (frameSize k a b) room m, e)
+module _ (size need room : ℕ) (e : need ≡ size) where
+  pub no-room : room < need → refused ROOM OUTPUT need ≡ first (demand (leb size room) ROOM OUTPUT size) (done (size ∷ []))
+  no-room l = let m : room < size = omega arith in rw (lt-leb size room m, e)
 
-  pub room-enough : need ≤ room → done (need ∷ []) ≡ first (demand (leb (frameSize k a b) room) ROOM OUTPUT (frameSize k a b)) (done (frameSize k a b ∷ []))
-  room-enough l = let m : frameSize k a b ≤ room = omega arith in rw (le-leb (frameSize k a b) room m, e)
+  pub room-enough : need ≤ room → done (need ∷ []) ≡ first (demand (leb size room) ROOM OUTPUT size) (done (size ∷ []))
+  room-enough l = let m : size ≤ room = omega arith in rw (le-leb size room m, e)

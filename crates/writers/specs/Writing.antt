@@ -12,7 +12,7 @@ use Rattle.kinds.specs.declared.Kind.{Kind}
 use Rattle.writers.specs.declared.Written.{Written}
 use Rattle.writers.specs.declared.Written.the-variants.{Wrote, Refused}
 use Rattle.kinds.specs.Kinds.{table, fits, alone, frameSize}
-use Rattle.frames.specs.Reading.{spareClear, content}
+use Rattle.bodies.specs.Bodies.{spareClear, content}
 
 -- the count in two bytes, the version, the kind, the first number and, where there are two, the second
 abbrev pub heading : Kind → ℕ → ℕ → ℕ → List ℕ

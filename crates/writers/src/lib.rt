@@ -1,8 +1,8 @@
 // Writers: the numbers, the plain buffer that holds the rest of the body, then ROOM.
 use algebra::output::copy_at;
 use algebra::output::copy_into;
-use frames::body::check_content;
-use frames::body::spare_clear;
+use bodies::check_content;
+use bodies::spare_clear;
 use kinds::Kind;
 use kinds::alone;
 use kinds::buffer_of;

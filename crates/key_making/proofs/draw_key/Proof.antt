@@ -8,9 +8,9 @@ use lib.ListN.{take, drop}
 use Rattle.refusals.specs.Buffer.{OUTPUT}
 use Rattle.refusals.specs.Number.{ROOM}
 use Rattle.random.proofs.Drawings.{enough-of}
-use Rattle.draw.specs.Telling.{refusal}
+use Rattle.draw_rules.specs.Telling.{refusal}
 use Rattle.key_making.specs.Key.{keyFrames, drawPair, drawKey}
-use Rattle.draw.proofs.Orders.{no-room, runs-out, takes}
+use Rattle.draw_rules.proofs.Orders.{no-room, runs-out, takes}
 use Rattle.random.proofs.Sequences.{made-used}
 use Rattle.key_making.proofs.draw_key.Statement.{statement}
 use Rattle.key_making.proofs.draw_key.Tie as tie

@@ -7,7 +7,7 @@ use Rattle.kinds.specs.Kinds.{alone}
 use Rattle.frames.specs.Reading.{firstOf, secondOf, readMeans}
 use Rattle.frames.proofs.Facts.{reading-told}
 use Rattle.frames.proofs.Orders.{rest-part}
-use Rattle.draw.proofs.Orders.{bad-frame, past-frame}
+use Rattle.draw_rules.proofs.Orders.{bad-frame, past-frame}
 use Rattle.readers.proofs.Passing.{system-fits}
 use Rattle.kinds.specs.declared.Kind.the-variants.{System}
 use Rattle.key_making.proofs.make_key.Statement.{statement}

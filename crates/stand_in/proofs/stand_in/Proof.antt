@@ -9,7 +9,7 @@ use Rattle.refusals.proofs.Chain.{goes-on, stops}
 use Rattle.algebra.specs.Lists.{over}
 use Rattle.stand_in.specs.Standing.{roundBytes, standing}
 use Rattle.scheme.specs.Round.{Opened}
-use Rattle.stand_in.proofs.Orders.{no-room, room-enough}
+use Rattle.writers.proofs.Writing.{no-room, room-enough}
 use Rattle.stand_in.proofs.Facts.{StandInFits, lent-told, parts-fit, parts-stand-in}
 use Rattle.stand_in.proofs.stand_in.Statement.{statement}
 use Rattle.stand_in.proofs.stand_in.Tie as tie

@@ -5,6 +5,7 @@ use native.Mathlib.Omega.{arith}
 use borrow.Author.Needs.{needs}
 use Rattle.refusals.specs.Told.{means}
 use Rattle.refusals.proofs.Chain.{goes-on, stops}
+use Rattle.kinds.specs.Kinds.{frameSize}
 use Rattle.writers.specs.Writing.{writing}
 use Rattle.frames.proofs.Facts.{numbers-small, size-small}
 use Rattle.writers.proofs.Writing.{Plain, plain-told, no-room, room-enough}
@@ -42,7 +43,7 @@ returns-2 c =
     let h = past-plain (c .before .before) .size in
     record {
       says = goes-on (c .before .before .before .before .check-plain .ensures) (c .before .before .enum-told .given .1)
-          (no-room (g .kind) (g .a) (g .b) _ _ (omega (arith, c .before .start-of .ensures .0)) (c .if1 .taken));
+          (no-room (frameSize (g .kind) (g .a) (g .b)) _ _ (omega (arith, c .before .start-of .ensures .0)) (c .if1 .taken));
       writes = refl;
     }
 
@@ -65,7 +66,7 @@ returns-3 c =
     let h = past-plain (c .before .before .before .before .before .before) .size in
     record {
       says = goes-on (c .before .before .before .before .before .before .before .before .check-plain .ensures) (c .before .before .before .before .before .before .enum-told .given .1)
-          (room-enough (g .kind) (g .a) (g .b) _ _ (omega (arith, c .before .before .before .before .before .start-of .ensures .0)) (c .before .before .before .before .if1 .left));
+          (room-enough (frameSize (g .kind) (g .a) (g .b)) _ _ (omega (arith, c .before .before .before .before .before .start-of .ensures .0)) (c .before .before .before .before .if1 .left));
       writes = c .before .before .put-frame .ensures;
     }
 

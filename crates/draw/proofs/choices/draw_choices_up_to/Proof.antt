@@ -7,10 +7,10 @@ use borrow.Author.Tests.{not-true, not-false}
 use Rattle.random.proofs.Drawings.{enough-of}
 use Rattle.algebra.proofs.Sums.{byte-mul}
 use Rattle.readers.specs.Choosing.{choiceSize}
-use Rattle.draw.specs.Telling.{choicesFit}
-use Rattle.draw.specs.Making.{drawChoices}
-use Rattle.draw.proofs.Orders.{bad-numbers, no-room, good-numbers, runs-out, takes}
-use Rattle.draw.proofs.Making.{choices-fit-told}
+use Rattle.draw_rules.specs.Telling.{choicesFit}
+use Rattle.draw_rules.specs.Making.{drawChoices}
+use Rattle.draw_rules.proofs.Orders.{bad-numbers, no-room, good-numbers, runs-out, takes}
+use Rattle.draw_rules.proofs.Making.{choices-fit-told}
 use Rattle.draw.proofs.choices.draw_choices_up_to.Statement.{statement}
 use Rattle.draw.proofs.choices.draw_choices_up_to.Tie as tie
 

@@ -2,7 +2,7 @@
 use mathlib.Core.Path.{sym, _∙_}
 use borrow.Author.Needs.{needs}
 use Rattle.random.specs.Drawings.{drawPermutation}
-use Rattle.draw.specs.Making.{drawChoice}
+use Rattle.draw_rules.specs.Making.{drawChoice}
 use Rattle.random.specs.Sequences.{drawResidues}
 use Rattle.random.proofs.Sequences.{then-used, then-short}
 use Rattle.draw.proofs.choices.measure_choice.Statement.{statement}

@@ -4,7 +4,7 @@ use Prim.Native.Nat.{ℕ, _-_, _≤_}
 use native.Mathlib.Omega.{arith}
 use borrow.Author.Needs.{needs}
 use Rattle.random.specs.Drawings.{usedBy}
-use Rattle.draw.specs.Making.{drawChoice, drawChoices}
+use Rattle.draw_rules.specs.Making.{drawChoice, drawChoices}
 use Rattle.random.specs.Sequences.{manyTimes}
 use Rattle.random.proofs.Sequences.{times-none, times-ends, measured-more}
 use Rattle.random.specs.declared.draw.Used.the-variants.{To}

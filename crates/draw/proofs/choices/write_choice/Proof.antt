@@ -10,7 +10,7 @@ use Rattle.refusals.specs.Told.{first}
 use Rattle.random.specs.Drawings.{Drawing, drawPermutation, usedBy, drawnOver}
 use Rattle.algebra.specs.Residues.{modulus, Residues}
 use Rattle.random.proofs.Drawings.{Permutes, drawn-perm}
-use Rattle.draw.specs.Making.{drawChoice}
+use Rattle.draw_rules.specs.Making.{drawChoice}
 use Rattle.random.specs.Sequences.{drawResidues}
 use Rattle.random.proofs.Sequences.{drew-of, then-drew, enough-first, enough-next, behind, Always, some-below}
 use Rattle.draw.proofs.choices.write_choice.Statement.{statement}

@@ -13,8 +13,8 @@ use Rattle.algebra.proofs.Lists.{stretch-fits}
 use Rattle.algebra.proofs.Sums.{byte-mul}
 use Rattle.readers.specs.Choosing.{choiceSize}
 use Rattle.readers.proofs.Passing.{Chosen}
-use Rattle.draw.specs.Making.{drawChoice, drawChoices}
-use Rattle.draw.proofs.Making.{choice-chosen}
+use Rattle.draw_rules.specs.Making.{drawChoice, drawChoices}
+use Rattle.draw_rules.proofs.Making.{choice-chosen}
 use Rattle.random.proofs.Sequences.{drew-of, behind, Written, written-none, written-more, written-enough, written-all, Always, written-each}
 use Rattle.draw.proofs.choices.write_choices.Statement.{statement}
 use Rattle.draw.proofs.choices.write_choices.Tie as tie

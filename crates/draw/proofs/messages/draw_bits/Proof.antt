@@ -12,11 +12,11 @@ use Rattle.random.proofs.Drawings.{enough-of}
 use Rattle.packed_bits.specs.Clearing.{packedSize, cleared}
 use Rattle.kinds.specs.Kinds.{within, alone}
 use Rattle.writers.specs.Writing.{frame}
-use Rattle.draw.specs.Telling.{refusal}
+use Rattle.draw_rules.specs.Telling.{refusal}
 use Rattle.frames.proofs.Facts.{within-told}
-use Rattle.draw.specs.Making.{drawBits}
+use Rattle.draw_rules.specs.Making.{drawBits}
 use Rattle.random.specs.Sequences.{someBelow, byteLimit}
-use Rattle.draw.proofs.Orders.{bad-numbers, no-room, good-numbers, runs-out, takes}
+use Rattle.draw_rules.proofs.Orders.{bad-numbers, no-room, good-numbers, runs-out, takes}
 use Rattle.random.proofs.Sequences.{made-used}
 use Rattle.kinds.specs.declared.Kind.the-variants.{Bits}
 use Rattle.draw.proofs.messages.draw_bits.Statement.{statement}

@@ -9,11 +9,11 @@ use Rattle.refusals.specs.Number.{ROOM}
 use Rattle.random.proofs.Drawings.{enough-of}
 use Rattle.kinds.specs.Kinds.{within, alone}
 use Rattle.writers.specs.Writing.{frame}
-use Rattle.draw.specs.Telling.{refusal}
+use Rattle.draw_rules.specs.Telling.{refusal}
 use Rattle.frames.proofs.Facts.{within-told}
-use Rattle.draw.specs.Making.{drawChallenges}
+use Rattle.draw_rules.specs.Making.{drawChallenges}
 use Rattle.random.specs.Sequences.{drawResidues}
-use Rattle.draw.proofs.Orders.{bad-numbers, no-room, good-numbers, runs-out, takes}
+use Rattle.draw_rules.proofs.Orders.{bad-numbers, no-room, good-numbers, runs-out, takes}
 use Rattle.random.proofs.Sequences.{made-used}
 use Rattle.kinds.specs.declared.Kind.the-variants.{Challenges}
 use Rattle.draw.proofs.messages.draw_challenges.Statement.{statement}

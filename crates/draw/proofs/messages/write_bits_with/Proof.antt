@@ -13,7 +13,7 @@ use Rattle.algebra.proofs.Lists.{front}
 use Rattle.packed_bits.specs.Clearing.{packedSize, cleared}
 use Rattle.writers.specs.Writing.{frame}
 use Rattle.packed_bits.proofs.Clearing.{length-cleared}
-use Rattle.draw.specs.Making.{drawBits}
+use Rattle.draw_rules.specs.Making.{drawBits}
 use Rattle.random.specs.Sequences.{made, someBelow, byteLimit}
 use Rattle.random.proofs.Sequences.{drew-of, Always, some-below}
 use Rattle.kinds.specs.declared.Kind.the-variants.{Bits}

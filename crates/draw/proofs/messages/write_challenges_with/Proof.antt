@@ -11,7 +11,7 @@ use Rattle.algebra.specs.Lists.{over}
 use Rattle.algebra.specs.Residues.{modulus, Residues}
 use Rattle.algebra.proofs.Lists.{front}
 use Rattle.writers.specs.Writing.{frame}
-use Rattle.draw.specs.Making.{drawChallenges}
+use Rattle.draw_rules.specs.Making.{drawChallenges}
 use Rattle.random.specs.Sequences.{made, drawResidues}
 use Rattle.random.proofs.Sequences.{drew-of, Always, some-below}
 use Rattle.kinds.specs.declared.Kind.the-variants.{Challenges}

@@ -8,7 +8,7 @@ use Rattle.random.specs.Drawings.{drawPermutation}
 use Rattle.random.proofs.Drawings.{untouched}
 use Rattle.kinds.specs.Kinds.{within, alone}
 use Rattle.frames.proofs.Facts.{within-told}
-use Rattle.draw.proofs.Orders.{bad-numbers, no-room, good-numbers, runs-out, takes}
+use Rattle.draw_rules.proofs.Orders.{bad-numbers, no-room, good-numbers, runs-out, takes}
 use Rattle.draw.proofs.permutation.draw_permutation.Statement.{statement}
 use Rattle.draw.proofs.permutation.draw_permutation.Tie as tie
 

@@ -3,7 +3,7 @@ use mathlib.Core.Path.{sym, ap, _∙_}
 use native.Mathlib.Omega.{arith}
 use borrow.Author.Needs.{needs}
 use borrow.Author.Tests.{not-true, not-false}
-use Rattle.frames.specs.Reading.{spareClear}
+use Rattle.bodies.specs.Bodies.{spareClear}
 use Rattle.frames.proofs.Orders.{rest-part, number-missing, numbers-differ, size-differs, spare-decides}
 use Rattle.frames.proofs.read.shape_fits.Statement.{statement}
 use Rattle.frames.proofs.read.shape_fits.Tie as tie

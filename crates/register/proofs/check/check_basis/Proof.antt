@@ -7,7 +7,7 @@ use Rattle.frames.proofs.Orders.{frame-goes-on, frame-stops}
 use Rattle.readers.proofs.Passing.{system-fits}
 use Rattle.kinds.specs.Kinds.{Modest, alone}
 use Rattle.kinds.specs.declared.Kind.the-variants.{System}
-use Rattle.register.specs.Verdict.{basisCheck}
+use Rattle.register_rules.specs.Verdict.{basisCheck}
 use Rattle.register.proofs.check.check_basis.Statement.{statement}
 use Rattle.register.proofs.check.check_basis.Tie as tie
 

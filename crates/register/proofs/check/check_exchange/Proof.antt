@@ -3,7 +3,7 @@ use mathlib.Core.Path.{refl}
 use borrow.Author.Needs.{needs}
 use Rattle.frames.proofs.Orders.{frame-goes-on, frame-stops}
 use Rattle.kinds.specs.Kinds.{Modest}
-use Rattle.register.specs.Verdict.{exchangeCheck}
+use Rattle.register_rules.specs.Verdict.{exchangeCheck}
 use Rattle.register.proofs.check.check_exchange.Statement.{statement}
 use Rattle.register.proofs.check.check_exchange.Tie as tie
 

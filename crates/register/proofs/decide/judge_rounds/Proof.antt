@@ -1,9 +1,9 @@
 -- `judge_rounds` meets its contract: the first round that does not pass decides, and its bit tells the number.
 use mathlib.Core.Path.{ap, _∙_}
 use borrow.Author.Needs.{needs}
-use Rattle.register.proofs.Facts.{bit-cut, bit-there}
-use Rattle.register.proofs.Orders.{all-passed, round-failed}
-use Rattle.register.specs.Verdict.{numberOf}
+use Rattle.register_rules.proofs.Facts.{bit-cut, bit-there}
+use Rattle.register_rules.proofs.Orders.{all-passed, round-failed}
+use Rattle.register_rules.specs.Verdict.{numberOf}
 use Rattle.register.proofs.decide.judge_rounds.Statement.{statement}
 use Rattle.register.proofs.decide.judge_rounds.Tie as tie
 

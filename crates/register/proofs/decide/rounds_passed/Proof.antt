@@ -1,8 +1,8 @@
 -- `rounds_passed` meets its contract: the bodies that it cuts are those of the frames.
 use mathlib.Core.Path.{_∙_}
 use borrow.Author.Needs.{needs}
-use Rattle.register.proofs.Facts.{parts-fit, parts-passed}
-use Rattle.register.specs.Verdict.{signOn}
+use Rattle.register_rules.proofs.Facts.{parts-fit, parts-passed}
+use Rattle.register_rules.specs.Verdict.{signOn}
 use Rattle.register.proofs.decide.rounds_passed.Statement.{statement}
 use Rattle.register.proofs.decide.rounds_passed.Tie as tie
 

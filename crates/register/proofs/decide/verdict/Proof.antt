@@ -5,9 +5,9 @@ use native.Mathlib.Omega.{arith}
 use borrow.Author.Needs.{needs}
 use borrow.Author.Tests.{not-false, not-true}
 use Rattle.refusals.specs.Told.{means}
-use Rattle.register.proofs.Facts.{frames-told, sign-on-fits}
-use Rattle.register.proofs.Orders.{bad-frames, rounds-decide, too-weak}
-use Rattle.register.specs.Verdict.{SignOnFits, enough, signOn}
+use Rattle.register_rules.proofs.Facts.{frames-told, sign-on-fits}
+use Rattle.register_rules.proofs.Orders.{bad-frames, rounds-decide, too-weak}
+use Rattle.register_rules.specs.Verdict.{SignOnFits, enough, signOn}
 use Rattle.register.proofs.decide.verdict.Statement.{statement}
 use Rattle.register.proofs.decide.verdict.Tie as tie
 

@@ -1,5 +1,5 @@
 -- `enough` meets its contract: a grade at a time.
-use Rattle.register.proofs.Orders.{inspector, keeper, no-grade}
+use Rattle.register_rules.proofs.Orders.{inspector, keeper, no-grade}
 use Rattle.register.proofs.grade.enough.Statement.{statement}
 use Rattle.register.proofs.grade.enough.Tie as tie
 

@@ -5,7 +5,7 @@ use Rattle.refusals.specs.Number.{SHAPE, DRAW}
 use Rattle.refusals.specs.Buffer.{NONE}
 use Rattle.refusals.proofs.Chain.{demand-most}
 use Rattle.algebra.specs.Permutations.{longest}
-use Rattle.draw.specs.Telling.{choicesFit}
+use Rattle.draw_rules.specs.Telling.{choicesFit}
 use Rattle.signon.proofs.ForC.{draw-for-c}
 use Rattle.signon.proofs.drawing.signon_draw_choices.Statement.{statement}
 use Rattle.signon.proofs.drawing.signon_draw_choices.Tie as tie

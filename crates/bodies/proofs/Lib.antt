@@ -1,0 +1,2 @@
+-- Laws for the loops that check bodies.
+pub mod Loops

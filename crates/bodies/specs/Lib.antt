@@ -1,0 +1,2 @@
+-- What is asked of the rest of a body.
+pub mod Bodies

@@ -1,0 +1,3 @@
+-- Drawing from lent bytes: what each call draws, and what it tells.
+pub mod Making
+pub mod Telling

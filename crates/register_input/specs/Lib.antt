@@ -1,0 +1,2 @@
+-- How the verdict program's input is cut.
+pub mod Cutting

@@ -1,0 +1,2 @@
+-- The verdict.
+pub mod Verdict

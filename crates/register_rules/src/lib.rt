@@ -1,0 +1,8 @@
+// The verdict by definition, and that it is exact. They stand in specs/ and proofs/; the code stands in the crate `register`.
+use refusals::Refusal;
+
+// What the register answers: the rounds of an accepted sign-on, or why it is refused.
+pub enum Verdict {
+    Accepted(usize),
+    Refused(Refusal),
+}

@@ -1,0 +1,2 @@
+-- Laws of the operations.
+pub mod Choice
