@@ -8,7 +8,7 @@ use draw_rules::Taken;
 use kinds::Kind;
 use kinds::size_of;
 use packed_bits::clear_unused;
-use random::crate::Used;
+use random::draw::Used;
 use random::sequence::measure_below;
 use random::sequence::write_below;
 use refusals::buffer::NONE;

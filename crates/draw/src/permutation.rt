@@ -2,7 +2,7 @@
 use crate::places_fit;
 use crate::refuse;
 use draw_rules::Taken;
-use random::crate::Used;
+use random::draw::Used;
 use refusals::buffer::NONE;
 use refusals::buffer::OUTPUT;
 use refusals::buffer::RANDOM;
@@ -23,7 +23,7 @@ pub fn draw_permutation(n: usize, random: &[u8], out: &mut [u8]) -> Taken
     if out.len() < n {
         return refuse(ROOM, OUTPUT, n);
     }
-    match random::crate::draw_permutation(random, 0, n, out) {
+    match random::draw::draw_permutation(random, 0, n, out) {
         Used::RanOut => refuse(DRAW, RANDOM, random.len()),
         Used::To(used) => Taken::Bytes(used),
     }

@@ -11,7 +11,7 @@ use refusals::number::FIRST;
 use refusals::number::SECOND;
 use refusals::number::WEAK;
 use register_rules::Verdict;
-use rounds::crate::first_failing;
+use rounds::register::first_failing;
 ghost use mathlib.Core.Path.{_≡_};
 ghost use Rattle.register_rules.specs.Verdict.{signOn, SignOnFits, roundsPassed, numberOf, roundsCheck, verdictMeans, Judges};
 
