@@ -1,2 +1,3 @@
+-- The numbers and sizes of the arguments and files of the desk.
 pub mod Numbers
 pub mod Slots
