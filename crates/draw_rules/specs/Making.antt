@@ -1,4 +1,4 @@
--- What each call draws (document 01, "Drawing from lent bytes"). A permutation is `drawPermutation` of the algebra.
+-- What each call draws (document 01, "Drawing from lent bytes"). A permutation is `drawPermutation` of the crate `random`.
 use mathlib.Core.List.{List}
 use Prim.Native.Nat.{ℕ}
 use Rattle.random.specs.Drawings.{Drawing, drawPermutation}

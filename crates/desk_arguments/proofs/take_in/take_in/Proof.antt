@@ -1,4 +1,4 @@
--- `desk::take_in::take_in` is safe and ends: the arguments still to be taken in are the measure.
+-- `desk_arguments::take_in::take_in` is safe and ends: the arguments still to be taken in are the measure.
 use mathlib.Core.Path.{_≡_}
 use borrow.Author.Needs.{needs}
 use Prim.Native.Nat.{_≤_, _-_}

@@ -1,4 +1,4 @@
--- `desk::new_key::make_from` ends: the tries that are left are the measure.
+-- `desk_commands::new_key::make_from` ends: the tries that are left are the measure.
 use mathlib.Core.Path.{_≡_}
 use borrow.Author.Needs.{needs}
 use lib.ListN.{length}

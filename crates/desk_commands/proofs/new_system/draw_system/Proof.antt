@@ -1,4 +1,4 @@
--- `desk::new_system::draw_system` is safe: numbers that fit are small, and what was measured suffices to write.
+-- `desk_commands::new_system::draw_system` is safe: numbers that fit are small, and what was measured suffices to write.
 use mathlib.Core.Path.{sym, _∙_}
 use native.Mathlib.Omega.{arith}
 use borrow.Author.Tests.{not-false}
