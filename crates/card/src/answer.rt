@@ -1,11 +1,11 @@
 // Answer: all first answers are written, and the challenges kept.
 use algebra::output::copy_into;
+use algebra::wide;
 use card_checks::order::check_answer;
 use card_rounds::answer_all;
 use card_rules::session::ANSWERED;
 use card_rules::session::Session;
 use card_steps::Step;
-use frames::wide;
 use kinds::Kind;
 use refusals::Checked;
 use writers::Written;

@@ -1,10 +1,10 @@
 // Begin: all commitments are written.
+use algebra::wide;
 use card_checks::order::check_begin;
 use card_rounds::commit_all;
 use card_rules::session::COMMITTED;
 use card_rules::session::Session;
 use card_steps::Step;
-use frames::wide;
 use kinds::Kind;
 use refusals::Checked;
 use writers::Written;

@@ -1,11 +1,11 @@
 // Open: all openings are written once the card's own check has passed, and the choices are zeroed.
 use crate::give_up::zero;
+use algebra::wide;
 use card_checks::order::check_open;
 use card_rounds::open_all;
 use card_rules::session::CLOSED;
 use card_rules::session::Session;
 use card_steps::Step;
-use frames::wide;
 use kinds::Kind;
 use own_check::own_failing;
 use refusals::Checked;

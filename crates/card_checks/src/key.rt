@@ -1,7 +1,7 @@
 // The frames of system, public key and secret key, and whether the key is valid.
+use algebra::wide;
 use frames::read::Read;
 use frames::read::read_frame;
-use frames::wide;
 use kinds::Kind;
 use kinds::of_places;
 use matrices::key_fault;

@@ -1,6 +1,7 @@
 // What begin, answer and open ask before they do anything, each in its order.
 use crate::key::check_keys;
 use crate::key::check_valid;
+use algebra::wide;
 use card_rules::session::ANSWERED;
 use card_rules::session::COMMITTED;
 use card_rules::session::Session;
@@ -9,7 +10,6 @@ use card_rules::session::kept_fit;
 use card_rules::session::record_fits;
 use frames::read::Read;
 use frames::read::read_frame;
-use frames::wide;
 use kinds::Kind;
 use kinds::alone;
 use kinds::exactly;

@@ -1,6 +1,6 @@
 // The session record, its stages, and the tests of STAGE.
 use algebra::MODULUS;
-use frames::wide;
+use algebra::wide;
 use kinds::alone;
 use kinds::within;
 ghost use mathlib.Core.Path.{_≡_};

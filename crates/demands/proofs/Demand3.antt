@@ -20,7 +20,8 @@ use Rattle.rounds.specs.Layout.{Messages, pairAt, openedAt}
 use Rattle.rounds.proofs.Runs.{honest-opened}
 use Rattle.card_rules.specs.Keys.{Keys, placesOf, publicOf, secretOf}
 use Rattle.card_rules.specs.Lent.{matrixOf, LentFits}
-use Rattle.stand_in.specs.Standing.{roundSize, standing, standInOf}
+use Rattle.stand_in_round.specs.Bytes.{roundSize}
+use Rattle.stand_in.specs.Standing.{standing, standInOf}
 use Rattle.stand_in.proofs.Facts.{stand-in-of, lent-passes}
 use Rattle.stand_in.proofs.Outcomes.{passed-tells}
 use Rattle.register_rules.specs.Verdict.{messagesIn}

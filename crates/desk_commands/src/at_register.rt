@@ -1,7 +1,7 @@
 // The register's verdict.
-use crate::keep::refuse;
 use desk_files::argument::number;
 use desk_files::slots::file;
+use desk_outcomes::refuse;
 use hosting::text::say;
 use hosting::text::say_with;
 use refusals::buffer::ANSWERS;

@@ -1,10 +1,9 @@
 // The drawings: challenges, bits, choices.
-use crate::keep::refuse;
 use algebra::LONGEST;
 use desk_files::argument::number;
 use desk_files::save::save;
-use desk_files::slots::FILE_MOST;
 use desk_files::slots::file;
+use desk_outcomes::refuse;
 use draw::choices::draw_choices;
 use draw::messages::draw_bits;
 use draw::messages::draw_challenges;
@@ -41,26 +40,16 @@ fn keep(told: Taken, lent: &[u8], out_at: usize, drawn: &[u8]) {
     }
 }
 
-fn challenges_into(lent: &[u8], out: &mut [u8]) {
+// ROUNDS RANDOM OUT
+pub fn challenges(lent: &[u8], out: &mut [u8]) {
     let told = draw_challenges(number(2), file(lent, RANDOM), out);
     keep(told, lent, 4, frame_in(out));
 }
 
 // ROUNDS RANDOM OUT
-pub fn challenges(lent: &[u8]) {
-    let mut out = [0u8; 128];
-    challenges_into(lent, &mut out);
-}
-
-fn bits_into(lent: &[u8], out: &mut [u8]) {
+pub fn bits(lent: &[u8], out: &mut [u8]) {
     let told = draw_bits(number(2), file(lent, RANDOM), out);
     keep(told, lent, 4, frame_in(out));
-}
-
-// ROUNDS RANDOM OUT
-pub fn bits(lent: &[u8]) {
-    let mut out = [0u8; 128];
-    bits_into(lent, &mut out);
 }
 
 // The bytes of choices: n for R and n for sigma in each round.
@@ -74,15 +63,10 @@ fn choices_size(n: usize, rounds: usize) -> usize {
     2 * size_of(Kind::Answers, n, rounds)
 }
 
-fn choices_into(lent: &[u8], out: &mut [u8]) {
+// N ROUNDS RANDOM OUT
+pub fn choices(lent: &[u8], out: &mut [u8]) {
     let n = number(2);
     let rounds = number(3);
     let told = draw_choices(n, rounds, file(lent, RANDOM), out);
     keep(told, lent, 5, front(out, choices_size(n, rounds)));
-}
-
-// N ROUNDS RANDOM OUT
-pub fn choices(lent: &[u8]) {
-    let mut out = [0u8; FILE_MOST];
-    choices_into(lent, &mut out);
 }

@@ -2,7 +2,6 @@
 use desk_files::argument::fail;
 use desk_files::argument::number;
 use desk_files::save::save;
-use desk_files::slots::FILE_MOST;
 use desk_files::slots::file;
 use hosting::bytes::front;
 use hosting::bytes::lay;
@@ -22,8 +21,9 @@ fn flip_bit(x: u8, k: usize) -> u8 {
     x ^ (128 >> (k % 8))
 }
 
-fn flip_in(lent: &[u8], room: &mut [u8]) {
-    let size = lay(file(lent, NONE), room);
+// FILE PLACE BIT OUT
+pub fn flip(lent: &[u8], out: &mut [u8]) {
+    let size = lay(file(lent, NONE), out);
     let place = number(PLACE_AT);
     let bit = number(BIT_AT);
     if size <= place {
@@ -37,11 +37,6 @@ fn flip_in(lent: &[u8], room: &mut [u8]) {
         );
         return;
     }
-    room[place] = flip_bit(room[place], bit);
-    save(OUT_AT, front(room, size));
-}
-
-pub fn flip(lent: &[u8]) {
-    let mut room = [0u8; FILE_MOST];
-    flip_in(lent, &mut room);
+    out[place] = flip_bit(out[place], bit);
+    save(OUT_AT, front(out, size));
 }

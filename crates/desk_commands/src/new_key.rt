@@ -1,10 +1,10 @@
 // A key: the public key and the secret key of a system.
 use crate::drawing::frame_in;
-use crate::keep::refuse;
 use desk_files::load::open_source;
 use desk_files::save::NOTHING;
 use desk_files::save::save_three;
 use desk_files::slots::file;
+use desk_outcomes::refuse;
 use draw_rules::Taken;
 use hosting::bytes::behind;
 use hosting::text::say;
@@ -82,12 +82,11 @@ fn key_into(fd: i32, lent: &[u8], out: &mut [u8]) {
 }
 
 // SYSTEM RANDOM PUBLIC SECRET
-pub fn key(lent: &[u8]) {
+pub fn key(lent: &[u8], out: &mut [u8]) {
     let fd = open_source(RANDOM_AT);
     if fd < 0 {
         return;
     }
-    let mut out = [0u8; 256];
-    key_into(fd, lent, &mut out);
+    key_into(fd, lent, out);
     libc::close(fd);
 }

@@ -1,10 +1,9 @@
 // A system: random entries, drawn as residues, and the writer of kind 1.
 use crate::drawing::say_used;
-use crate::keep::keep_written;
 use algebra::MODULUS;
 use desk_files::argument::number;
-use desk_files::slots::FILE_MOST;
 use desk_files::slots::file;
+use desk_outcomes::keep_written;
 use hosting::bytes::front;
 use kinds::Kind;
 use kinds::alone;
@@ -15,13 +14,13 @@ use random::sequence::measure_below;
 use random::sequence::write_below;
 use refusals::Refusal;
 use refusals::buffer::NONE;
+use refusals::buffer::OUTPUT;
 use refusals::buffer::RANDOM;
 use refusals::number::DRAW;
+use refusals::number::ROOM;
 use refusals::number::SHAPE;
 use writers::Written;
 use writers::write_system;
-ghost use mathlib.Core.Path.{_≡_};
-ghost use lib.ListN.{length};
 
 // The arguments.
 const N_AT: usize = 2;
@@ -38,14 +37,15 @@ fn refused(number: u8, buffer: u8, place: usize) -> Written {
     })
 }
 
-// Draws the entries into the room and writes the frame. The order is that of the drawings: the numbers, then DRAW.
-fn draw_system(n: usize, m: usize, random: &[u8], room: &mut [u8], out: &mut [u8]) -> Written
-    requires { ⌜ 65536 ≡ length (now room) ⌝ }
-{
+// Draws the entries into the room and writes the frame. The order is that of the drawings: the numbers, ROOM, DRAW.
+fn draw_system(n: usize, m: usize, random: &[u8], room: &mut [u8], out: &mut [u8]) -> Written {
     if !numbers_fit(Kind::System, alone(), n, m) {
         return refused(SHAPE, NONE, 0);
     }
     let size = size_of(Kind::System, n, m);
+    if room.len() < size {
+        return refused(ROOM, OUTPUT, size);
+    }
     match measure_below(MODULUS, size, random, 0) {
         Used::RanOut => refused(DRAW, RANDOM, random.len()),
         Used::To(used) => {
@@ -56,16 +56,8 @@ fn draw_system(n: usize, m: usize, random: &[u8], room: &mut [u8], out: &mut [u8
     }
 }
 
-fn system_into(lent: &[u8], room: &mut [u8], out: &mut [u8])
-    requires { ⌜ 65536 ≡ length (now room) ⌝ }
-{
+// N M RANDOM OUT
+pub fn system(lent: &[u8], room: &mut [u8], out: &mut [u8]) {
     let told = draw_system(number(N_AT), number(M_AT), file(lent, RANDOM), room, out);
     keep_written(told, lent, OUT_AT, out);
-}
-
-// N M RANDOM OUT
-pub fn system(lent: &[u8]) {
-    let mut room = io::large_buffer();
-    let mut out = [0u8; FILE_MOST];
-    system_into(lent, &mut room, &mut out);
 }

@@ -1,6 +1,6 @@
 // The program's arguments: the command is argument 1, and what it is given stands from 2 on.
+use algebra::wide;
 use check::same;
-use frames::wide;
 use hosting::text::say;
 ghost use mathlib.Core.Path.{_≡_};
 ghost use Rattle.desk_files.specs.Numbers.{numberIn};

@@ -1,5 +1,5 @@
 // Readers: the header, then SHAPE, then the bytes in order.
-use crate::wide;
+use algebra::wide;
 use bodies::check_content;
 use bodies::spare_clear;
 use kinds::Expected;

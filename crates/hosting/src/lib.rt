@@ -1,4 +1,3 @@
-// What programs that call the sign-on share: lent bytes, the readers by the number of their kind, text on standard output.
+// What programs that call the sign-on share: lent bytes, and text on standard output.
 pub mod bytes;
-pub mod read;
 pub mod text;

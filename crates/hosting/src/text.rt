@@ -1,5 +1,5 @@
 // The parts of a line.
-use frames::wide;
+use algebra::wide;
 use libc::STDOUT_FILENO;
 
 pub fn say(words: &[u8]) {

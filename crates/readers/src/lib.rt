@@ -6,6 +6,7 @@ use kinds::alone;
 ghost use Rattle.frames.specs.Reading.{Reads};
 ghost use Rattle.kinds.specs.Kinds.{alone};
 
+pub mod by_number;
 pub mod choices;
 pub mod opening;
 

@@ -1,7 +1,7 @@
 // The opening of a named round, a stretch of the openings frame.
 use crate::read_openings;
+use algebra::wide;
 use frames::read::Read;
-use frames::wide;
 use refusals::Checked;
 use refusals::buffer::NONE;
 use refusals::number::SHAPE;

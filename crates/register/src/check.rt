@@ -1,7 +1,7 @@
 // The frames of a sign-on, in order.
+use algebra::wide;
 use frames::read::Read;
 use frames::read::read_frame;
-use frames::wide;
 use kinds::Kind;
 use kinds::exactly;
 use kinds::of_places;

@@ -1,6 +1,6 @@
 // The verdict program's input: a grade byte and the frames end to end, cut by their counts.
+use algebra::wide;
 use frames::read::count_of;
-use frames::wide;
 use register::decide::verdict;
 use register_rules::Verdict;
 ghost use mathlib.Core.Path.{_≡_};

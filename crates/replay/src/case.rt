@@ -2,7 +2,7 @@
 // length and its bytes. What a damaged case lacks is 0, or empty.
 ghost use Prim.Native.Nat.{_≤_};
 ghost use lib.ListN.{length};
-use frames::wide;
+use algebra::wide;
 use hosting::bytes::byte_of;
 
 // The bytes as one number, the highest first.

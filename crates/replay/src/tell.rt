@@ -1,7 +1,7 @@
 // The words of a line.
+use algebra::wide;
 use draw_rules::Taken;
 use frames::read::Read;
-use frames::wide;
 use libc::STDOUT_FILENO;
 use refusals::Checked;
 use refusals::Refusal;

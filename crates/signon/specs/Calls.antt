@@ -17,7 +17,8 @@ use Rattle.kinds.specs.Kinds.{alone, table}
 use Rattle.frames.specs.Reading.{firstOf, reading, openingCheck}
 use Rattle.writers.specs.Writing.{frame, writing}
 use Rattle.draw_rules.specs.Telling.{telling}
-use Rattle.stand_in.specs.Standing.{standing, standInOf, roundBytes}
+use Rattle.stand_in_round.specs.Bytes.{roundBytes}
+use Rattle.stand_in.specs.Standing.{standing, standInOf}
 use Rattle.card_for_c.specs.declared.Answer.{Answer}
 use Rattle.card_for_c.specs.Answers.{answerOf, ifDone}
 

@@ -1,10 +1,10 @@
 // Readers: each answers the first number plus 256 times the second. And the place of a named round's opening.
+use algebra::wide;
 use card_for_c::Answer;
 use card_for_c::answers::refusal;
 use card_for_c::answers::success;
 use frames::read::Read;
 use frames::read::read_frame;
-use frames::wide;
 use kinds::Kind;
 use kinds::alone;
 use kinds::start_of;

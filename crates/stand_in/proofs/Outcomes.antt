@@ -25,9 +25,10 @@ use Rattle.writers.specs.Writing.{outAfter}
 use Rattle.writers.proofs.Outcomes.{written-fixes, room-most, room-one}
 use Rattle.scheme.specs.Round.{systemOf, passes}
 use Rattle.scheme.proofs.Laws.{stand-in-passes}
-use Rattle.stand_in.specs.Standing.{lentCheck, roundSize, standing, standInOf, roundBytes, StandsIn}
+use Rattle.stand_in_round.specs.Bytes.{roundSize, roundBytes}
+use Rattle.stand_in_round.proofs.Laid.{round-size}
+use Rattle.stand_in.specs.Standing.{lentCheck, standing, standInOf, StandsIn}
 use Rattle.stand_in.proofs.Facts.{StandInFits, lent-told}
-use Rattle.stand_in.proofs.Laid.{round-size}
 
 module _ (c bit : ℕ) (system key lent out : List ℕ) where
   pub one-stand-in : (r q : Written) (x y : List ℕ) → StandsIn c bit system key lent out r x → StandsIn c bit system key lent out q y → (r ≡ q) × (x ≡ y)

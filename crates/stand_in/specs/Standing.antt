@@ -1,7 +1,7 @@
 -- What the stand-in's call tells and writes (document 01, "One round" and "Refusal numbers").
 use mathlib.Core.Path.{_≡_}
-use mathlib.Core.List.{List, [], _∷_, _++_}
-use Prim.Native.Nat.{ℕ, _+_}
+use mathlib.Core.List.{List, [], _∷_}
+use Prim.Native.Nat.{ℕ}
 use lib.Dec.{eqb, ltb, leb}
 use lib.ListN.{length}
 use Rattle.refusals.specs.Number.{SHAPE, ROOM}
@@ -15,6 +15,7 @@ use Rattle.frames.specs.Reading.{firstOf, secondOf, restOf, reading}
 use Rattle.writers.specs.Writing.{writtenMeans, outAfter}
 use Rattle.readers.specs.Choosing.{vectorOf, permutationOf, choicesCheck}
 use Rattle.scheme.specs.Round.{systemOf, pair, Opened, standIn}
+use Rattle.stand_in_round.specs.Bytes.{roundSize, roundBytes}
 
 -- the numbers, then the frames, then the vector and the permutation, lent as one round of choices is
 unfoldable pub lentCheck : ℕ → ℕ → List ℕ → List ℕ → List ℕ → Told
@@ -24,10 +25,6 @@ lentCheck c bit system key lent =
     (first (reading System alone system)
     (first (reading Public (ofPlaces (firstOf system)) key)
     (choicesCheck (firstOf system) 1 lent))))
-
--- the bytes of a round: the commitment, W and the permutation
-abbrev pub roundSize : ℕ → ℕ
-roundSize n = 32 + n + n
 
 -- then ROOM; a success tells the bytes written
 unfoldable pub standing : ℕ → ℕ → List ℕ → List ℕ → List ℕ → ℕ → Told
@@ -41,9 +38,6 @@ unfoldable pub standInOf : ℕ → ℕ → List ℕ → List ℕ → List ℕ �
 standInOf c bit system key lent =
     standIn (systemOf (restOf System system) (firstOf system) (secondOf System system)) (restOf Public key) c (eqb bit 1)
     (pair (vectorOf (firstOf system) lent) (permutationOf (firstOf system) lent))
-
-unfoldable pub roundBytes : Opened → List ℕ
-roundBytes o = (o .commitment ++ o .answer) ++ o .permutation
 
 -- what the stand-in promises: its answer, and every byte of the output
 pub record StandsIn (c bit : ℕ) (system key lent out : List ℕ) (answer : Written) (after : List ℕ) : Type 0 where

@@ -1,5 +1,5 @@
 // The line of a verdict: `accepted N`, or `refused NUMBER BUFFER PLACE`.
-use frames::wide;
+use algebra::wide;
 use libc::STDOUT_FILENO;
 use refusals::Refusal;
 use register_rules::Verdict;

@@ -1,8 +1,8 @@
 // Why a call is refused, as one sentence. `bytes` is the buffer at fault; for STAGE it is the record.
 use crate::name::say_buffer;
 use crate::name::say_stage;
+use algebra::wide;
 use frames::read::count_of;
-use frames::wide;
 use hosting::bytes::byte_of;
 use hosting::text::say;
 use hosting::text::say_number;

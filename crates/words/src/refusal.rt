@@ -1,7 +1,7 @@
 // A refusal as one line: document 01's name, number, buffer and place, and a sentence.
 use crate::name::say_refusal_name;
 use crate::reason::say_reason;
-use frames::wide;
+use algebra::wide;
 use hosting::text::say;
 use hosting::text::say_with;
 use refusals::Refusal;

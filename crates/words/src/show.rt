@@ -4,13 +4,13 @@ use crate::refusal::tell_refusal;
 use crate::values::say_bits;
 use crate::values::say_digests;
 use crate::values::say_rows;
+use algebra::wide;
 use frames::read::Read;
-use frames::wide;
 use hosting::bytes::behind;
 use hosting::bytes::byte_of;
-use hosting::read::read_kind;
 use hosting::text::say;
 use hosting::text::say_with;
+use readers::by_number::read_kind;
 use refusals::Refusal;
 
 // The rows of A'.

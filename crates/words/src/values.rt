@@ -1,5 +1,5 @@
 // The values of a frame in rows.
-use frames::wide;
+use algebra::wide;
 use hosting::text::say;
 use hosting::text::say_hex;
 use hosting::text::say_number;

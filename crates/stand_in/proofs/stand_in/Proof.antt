@@ -7,7 +7,8 @@ use lib.Seq.{length-take-le}
 use Rattle.refusals.specs.Told.{means}
 use Rattle.refusals.proofs.Chain.{goes-on, stops}
 use Rattle.algebra.specs.Lists.{over}
-use Rattle.stand_in.specs.Standing.{roundBytes, standing}
+use Rattle.stand_in_round.specs.Bytes.{roundBytes}
+use Rattle.stand_in.specs.Standing.{standing}
 use Rattle.scheme.specs.Round.{Opened}
 use Rattle.writers.proofs.Writing.{no-room, room-enough}
 use Rattle.stand_in.proofs.Facts.{StandInFits, lent-told, parts-fit, parts-stand-in}

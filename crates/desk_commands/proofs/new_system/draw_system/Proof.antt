@@ -25,14 +25,20 @@ returns c = search needs
 size-of-requires : tie.Need-size-of-requires
 size-of-requires c κs = let g = c .before .before .before .before .before .before .args in let t = numbers-small System (g .n) (g .m) (rw (c .before .before .alone .ensures) at (sym (c .before .numbers-fit .ensures)) ∙ not-false _ (c .if1 .left)) in (omega arith, omega arith)
 
+refused-requires-2 : tie.Need-refused-requires-2
+refused-requires-2 c κs = search needs
+
+returns-2 : tie.Need-returns-2
+returns-2 c = search needs
+
 measure-below-requires : tie.Need-measure-below-requires
 measure-below-requires c κs = search needs
 
 enum-told : tie.Need-enum-told
 enum-told c = search needs
 
-refused-requires-2 : tie.Need-refused-requires-2
-refused-requires-2 c κs = search needs
+refused-requires-3 : tie.Need-refused-requires-3
+refused-requires-3 c κs = search needs
 
 enum-known-used : tie.Need-enum-known-used
 enum-known-used c = search needs
@@ -42,8 +48,8 @@ say-used-requires c κs = search needs
 
 write-below-requires : tie.Need-write-below-requires
 write-below-requires c κs =
-    let g = c .before .before .before .before .before .before .before .before .before .before .before .before .before .args in
-    (enough-of (someBelow 251 (c .before .before .before .before .before .before .size-of .result) (g .random .now) 0) _ (sym (c .before .before .before .used .given .1) ∙ c .before .before .before .before .before .measure-below .ensures), omega arith)
+    let g = c .before .before .before .before .before .before .before .before .before .before .before .before .before .before .args in
+    (enough-of (someBelow 251 (c .before .before .before .before .before .before .before .size-of .result) (g .random .now) 0) _ (sym (c .before .before .before .used .given .1) ∙ c .before .before .before .before .before .measure-below .ensures), omega arith)
 
 front-requires : tie.Need-front-requires
 front-requires c κs = search needs
@@ -51,8 +57,8 @@ front-requires c κs = search needs
 write-system-requires : tie.Need-write-system-requires
 write-system-requires c κs = search needs
 
-returns-2 : tie.Need-returns-2
-returns-2 c = search needs
+returns-3 : tie.Need-returns-3
+returns-3 c = search needs
 
 same-length : tie.Need-same-length
 same-length c = search needs
@@ -60,8 +66,8 @@ same-length c = search needs
 same-length-2 : tie.Need-same-length-2
 same-length-2 c = search needs
 
-returns-3 : tie.Need-returns-3
-returns-3 c = search needs
+returns-4 : tie.Need-returns-4
+returns-4 c = search needs
 
 pub draw-system-spec : {M : Type 1} → statement M
 draw-system-spec =
@@ -72,15 +78,17 @@ draw-system-spec =
     refused-requires
     returns
     size-of-requires
+    refused-requires-2
+    returns-2
     measure-below-requires
     enum-told
-    refused-requires-2
+    refused-requires-3
     enum-known-used
     say-used-requires
     write-below-requires
     front-requires
     write-system-requires
-    returns-2
+    returns-3
     same-length
     same-length-2
-    returns-3)
+    returns-4)

@@ -5,9 +5,9 @@ use native.Mathlib.Omega.{arith}
 use borrow.Author.Needs.{needs}
 use lib.ListN.{length}
 use borrow.Rule.Slice.PartMut.{putMid}
-use Rattle.stand_in.proofs.Laid.{answer-over}
-use Rattle.stand_in.proofs.put_answer.Statement.{statement}
-use Rattle.stand_in.proofs.put_answer.Tie as tie
+use Rattle.stand_in_round.proofs.Laid.{answer-over}
+use Rattle.stand_in_round.proofs.put_answer.Statement.{statement}
+use Rattle.stand_in_round.proofs.put_answer.Tie as tie
 
 sub-stand-in-answer-into : tie.Need-sub-stand-in-answer-into
 sub-stand-in-answer-into c = search needs

@@ -1,4 +1,4 @@
-// The card's calls.
+// The desk's commands at the card: each is lent the files of its arguments and room for its output, calls, and saves or tells what came.
 use card::answer::answer_step;
 use card::begin::begin_step;
 use card::give_up::give_up_step;
@@ -6,12 +6,11 @@ use card::open::open_step;
 use card_checks::key::check_key;
 use card_rules::session::Session;
 use card_steps::Step;
-use desk_commands::keep::refuse;
 use desk_files::argument::number;
 use desk_files::save::NOTHING;
 use desk_files::save::save_three;
-use desk_files::slots::FILE_MOST;
 use desk_files::slots::file;
+use desk_outcomes::refuse;
 use hosting::bytes::front;
 use hosting::bytes::lay;
 use hosting::text::say;
@@ -67,7 +66,8 @@ fn finish(step: Step, lent: &[u8], choices_at: usize, choices: &[u8], out: &[u8]
     }
 }
 
-fn begin_into(lent: &[u8], out: &mut [u8]) {
+// RECORD ROUNDS SYSTEM PUBLIC SECRET CHOICES OUT
+pub fn begin(lent: &[u8], out: &mut [u8]) {
     let step = begin_step(
         session_in(lent),
         number(ROUNDS_AT),
@@ -80,13 +80,8 @@ fn begin_into(lent: &[u8], out: &mut [u8]) {
     finish(step, lent, NOTHING, b"", out);
 }
 
-// RECORD ROUNDS SYSTEM PUBLIC SECRET CHOICES OUT
-pub fn begin(lent: &[u8]) {
-    let mut out = [0u8; FILE_MOST];
-    begin_into(lent, &mut out);
-}
-
-fn answer_into(lent: &[u8], out: &mut [u8]) {
+// RECORD SYSTEM PUBLIC SECRET CHALLENGES CHOICES OUT
+pub fn answer(lent: &[u8], out: &mut [u8]) {
     let step = answer_step(
         session_in(lent),
         file(lent, SYSTEM),
@@ -97,12 +92,6 @@ fn answer_into(lent: &[u8], out: &mut [u8]) {
         out,
     );
     finish(step, lent, NOTHING, b"", out);
-}
-
-// RECORD SYSTEM PUBLIC SECRET CHALLENGES CHOICES OUT
-pub fn answer(lent: &[u8]) {
-    let mut out = [0u8; FILE_MOST];
-    answer_into(lent, &mut out);
 }
 
 fn open_with(lent: &[u8], choices: &mut [u8], out: &mut [u8]) {
@@ -118,16 +107,10 @@ fn open_with(lent: &[u8], choices: &mut [u8], out: &mut [u8]) {
     finish(step, lent, CHOICES_AT, choices, out);
 }
 
-fn open_into(lent: &[u8], room: &mut [u8], out: &mut [u8]) {
+// RECORD SYSTEM PUBLIC SECRET BITS CHOICES OUT
+pub fn open(lent: &[u8], room: &mut [u8], out: &mut [u8]) {
     let size = lay(file(lent, CHOICES), room);
     open_with(lent, &mut room[..size], out);
-}
-
-// RECORD SYSTEM PUBLIC SECRET BITS CHOICES OUT
-pub fn open(lent: &[u8]) {
-    let mut room = [0u8; FILE_MOST];
-    let mut out = [0u8; FILE_MOST];
-    open_into(lent, &mut room, &mut out);
 }
 
 fn give_up_with(lent: &[u8], choices: &mut [u8]) {
@@ -135,13 +118,8 @@ fn give_up_with(lent: &[u8], choices: &mut [u8]) {
     keep(next, GIVEN_UP_AT, choices, NOTHING, b"");
 }
 
-fn give_up_in(lent: &[u8], room: &mut [u8]) {
+// RECORD CHOICES
+pub fn give_up(lent: &[u8], room: &mut [u8]) {
     let size = lay(file(lent, CHOICES), room);
     give_up_with(lent, &mut room[..size]);
-}
-
-// RECORD CHOICES
-pub fn give_up(lent: &[u8]) {
-    let mut room = [0u8; FILE_MOST];
-    give_up_in(lent, &mut room);
 }

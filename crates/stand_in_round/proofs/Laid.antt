@@ -15,7 +15,7 @@ use Rattle.sha256.specs.Standard.{digestOf}
 use Rattle.sha256.proofs.Digest.{digest-length}
 use Rattle.scheme.specs.Round.{System, Pair, pair, standInCommitted, standInAnswer, standIn}
 use Rattle.scheme.proofs.Laws.{length-under}
-use Rattle.stand_in.specs.Standing.{roundSize, roundBytes}
+use Rattle.stand_in_round.specs.Bytes.{roundSize, roundBytes}
 
 -- W has n residues
 answer-length : (p n : ℕ) (v : List ℕ) (c : ℕ) (bit : Bool) (y : Pair) → length (y .vector) ≡ n → IsPerm n (y .permutation) → length (standInAnswer p v c bit y) ≡ n

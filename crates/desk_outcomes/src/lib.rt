@@ -1,4 +1,4 @@
-// What came of a call: a refusal is told, an output is saved.
+// What came of a command: a refusal is told over the files of the command, an output is saved.
 use desk_files::save::save;
 use desk_files::slots::file;
 use hosting::bytes::front;
@@ -6,7 +6,6 @@ use refusals::Refusal;
 use words::refusal::tell_refusal;
 use writers::Written;
 
-// Tells a refusal over the files of the command.
 pub fn refuse(x: Refusal, lent: &[u8]) {
     let buffer = x.buffer;
     tell_refusal(x, file(lent, buffer));

@@ -3,8 +3,8 @@ use mathlib.Core.Path.{_∙_}
 use borrow.Author.Needs.{needs}
 use Rattle.register_rules.proofs.Facts.{parts-fit, parts-passed}
 use Rattle.register_rules.specs.Verdict.{signOn}
-use Rattle.register.proofs.decide.rounds_passed.Statement.{statement}
-use Rattle.register.proofs.decide.rounds_passed.Tie as tie
+use Rattle.register_rounds.proofs.rounds_passed.Statement.{statement}
+use Rattle.register_rounds.proofs.rounds_passed.Tie as tie
 
 shared-slice-read-wide : tie.Need-shared-slice-read-wide
 shared-slice-read-wide c = search needs

@@ -5,9 +5,9 @@ use native.Mathlib.Omega.{arith}
 use borrow.Author.Needs.{needs}
 use Rattle.algebra.specs.Permutations.{IsPerm}
 use Rattle.scheme.specs.Round.{systemOf, pair}
-use Rattle.stand_in.proofs.Laid.{round-laid}
-use Rattle.stand_in.proofs.put_round.Statement.{statement}
-use Rattle.stand_in.proofs.put_round.Tie as tie
+use Rattle.stand_in_round.proofs.Laid.{round-laid}
+use Rattle.stand_in_round.proofs.put_round.Statement.{statement}
+use Rattle.stand_in_round.proofs.put_round.Tie as tie
 
 stand-in-commitment-requires : tie.Need-stand-in-commitment-requires
 stand-in-commitment-requires c κs = search needs

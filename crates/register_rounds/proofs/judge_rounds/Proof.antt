@@ -4,8 +4,8 @@ use borrow.Author.Needs.{needs}
 use Rattle.register_rules.proofs.Facts.{bit-cut, bit-there}
 use Rattle.register_rules.proofs.Orders.{all-passed, round-failed}
 use Rattle.register_rules.specs.Verdict.{numberOf}
-use Rattle.register.proofs.decide.judge_rounds.Statement.{statement}
-use Rattle.register.proofs.decide.judge_rounds.Tie as tie
+use Rattle.register_rounds.proofs.judge_rounds.Statement.{statement}
+use Rattle.register_rounds.proofs.judge_rounds.Tie as tie
 
 shared-slice-read-wide : tie.Need-shared-slice-read-wide
 shared-slice-read-wide c = search needs

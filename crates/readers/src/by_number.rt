@@ -1,13 +1,13 @@
-// The readers by the number of their kind.
+// The readers by the number of their kind, for programs.
+use crate::read_bits;
+use crate::read_challenges;
+use crate::read_commitments;
+use crate::read_first_answers;
+use crate::read_openings;
+use crate::read_public_key;
+use crate::read_secret_key;
+use crate::read_system;
 use frames::read::Read;
-use readers::read_bits;
-use readers::read_challenges;
-use readers::read_commitments;
-use readers::read_first_answers;
-use readers::read_openings;
-use readers::read_public_key;
-use readers::read_secret_key;
-use readers::read_system;
 
 // Reads a frame of a kind, 1 to 8.
 pub fn read_kind(kind: u8, frame: &[u8]) -> Read {

@@ -1,0 +1,2 @@
+-- The bytes of a round, laid one behind the other.
+pub mod Laid

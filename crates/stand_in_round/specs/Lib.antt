@@ -1,0 +1,2 @@
+-- The bytes of the round that the stand-in makes.
+pub mod Bytes
