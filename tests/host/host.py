@@ -3,6 +3,7 @@ import os
 import subprocess
 from functools import cache
 from pathlib import Path
+from threading import Lock
 
 ROOT = Path(__file__).resolve().parents[2]
 HERE = ROOT / "tests" / "host"
@@ -31,12 +32,20 @@ def run(command, folder=ROOT, sent=None, **environment):
 
 
 @cache
-def archive():
-    """The path of the archive, which is built once."""
+def built():
     ran = subprocess.run([ROOT / "bindings" / "archive"], stdout=subprocess.PIPE, stderr=subprocess.PIPE)
     if ran.returncode:
         raise Failed(f"no archive\n{ran.stderr.decode(errors='replace')}")
     return Path(ran.stdout.decode().strip())
+
+
+BUILDING = Lock()
+
+
+def archive():
+    """The path of the archive, which is built once, by the first test that asks for it."""
+    with BUILDING:
+        return built()
 
 
 def link(source, name):

@@ -1,12 +1,14 @@
 #!/usr/bin/env python3
-"""Runs every host test over one archive, and prints a line for each.
+"""Runs every host test over one archive, as many at a time as there are processors, and prints a line for each as it ends.
 
     python3 tests/host/run.py [NAME ..]
 
-NAME is header, example, sign_ons, verdict, desk or rust; all of them where none is named. Needs rt, gcc, g++, nm and cargo, and the programs in
+NAME is header, verdict, desk, rust, example or sign_ons; all of them where none is named. Needs rt, gcc, g++, nm and cargo, and the programs in
 target/bin. The archive is built first (bindings/archive). Exit status 1 where a test fails.
 """
+import os
 import sys
+from concurrent.futures import ThreadPoolExecutor
 
 import desk
 import example
@@ -18,12 +20,13 @@ from host import Failed
 
 TESTS = {
     "header": header.check,
-    "example": example.check,
-    "sign_ons": sign_ons.check,
     "verdict": verdict_offsets.check,
     "desk": desk.check,
     "rust": rust.check,
+    "example": example.check,
+    "sign_ons": sign_ons.check,
 }
+"""Those over programs stand second and third: they go on while the first has the archive built."""
 
 
 def passes(name):
@@ -37,7 +40,8 @@ def passes(name):
 
 def main():
     named = sys.argv[1:] or list(TESTS)
-    results = [passes(name) for name in named]
+    with ThreadPoolExecutor(os.cpu_count()) as pool:
+        results = list(pool.map(passes, named))
     sys.exit(0 if all(results) else 1)
 
 

@@ -1,4 +1,5 @@
 // Answer: all first answers are written, and the challenges kept.
+use algebra::LONGEST;
 use algebra::output::copy_into;
 use algebra::wide;
 use card_checks::order::check_answer;
@@ -15,6 +16,7 @@ ghost use Prim.Native.Nat.{_≤_};
 ghost use lib.ListN.{length};
 ghost use Rattle.algebra.specs.Lists.{over, joined};
 ghost use Rattle.algebra.specs.Residues.{modulus};
+ghost use Rattle.algebra.specs.Permutations.{longest};
 ghost use Rattle.writers.specs.Writing.{frame};
 ghost use Rattle.rounds.specs.Layout.{CardFits};
 ghost use Rattle.rounds.specs.Rounds.{answerAt};
@@ -32,7 +34,7 @@ fn put_answers(
     choices: &[u8],
     out: &mut [u8],
 )
-    requires { ⌜ CardFits n rounds (now v) (now pi) (now choices) × (n ≤ 64) × (rounds ≤ 64) × (rounds ≤ length (now challenges)) × (answersSize n rounds ≤ length (now out)) ⌝ }
+    requires { ⌜ CardFits n rounds (now v) (now pi) (now choices) × (n ≤ longest) × (rounds ≤ longest) × (rounds ≤ length (now challenges)) × (answersSize n rounds ≤ length (now out)) ⌝ }
     ensures { λ _. ⌜ now (out .exit) ≡ over (frame Kind.Answers n rounds (joined rounds (answerAt modulus n (now (v .entry)) (now (pi .entry)) (now (challenges .entry)) (now (choices .entry))))) (now (out .entry)) ⌝ }
 {
     put_heading(Kind::Answers, n, rounds, n * rounds, out);
@@ -40,8 +42,8 @@ fn put_answers(
 }
 
 // The challenges kept: the new ones over the first of those before.
-fn keep(before: [u8; 64], challenges: &[u8]) -> [u8; 64]
-    requires { ⌜ length (now challenges) ≤ 64 ⌝ }
+fn keep(before: [u8; LONGEST], challenges: &[u8]) -> [u8; LONGEST]
+    requires { ⌜ length (now challenges) ≤ longest ⌝ }
     ensures { λ r. ⌜ r ≡ over (now (challenges .entry)) before ⌝ }
 {
     let mut kept = before;
@@ -51,7 +53,7 @@ fn keep(before: [u8; 64], challenges: &[u8]) -> [u8; 64]
 
 // The record with the challenges kept.
 fn with_challenges(session: Session, challenges: &[u8]) -> Session
-    requires { ⌜ length (now challenges) ≤ 64 ⌝ }
+    requires { ⌜ length (now challenges) ≤ longest ⌝ }
     ensures { λ r. ⌜ r ≡ answered session (now (challenges .entry)) ⌝ }
 {
     let before = session.challenges;

@@ -1,4 +1,5 @@
 // Begin: all commitments are written.
+use algebra::LONGEST;
 use algebra::wide;
 use card_checks::order::check_begin;
 use card_rounds::commit_all;
@@ -6,6 +7,7 @@ use card_rules::session::COMMITTED;
 use card_rules::session::Session;
 use card_steps::Step;
 use kinds::Kind;
+use kinds::PAIR;
 use refusals::Checked;
 use writers::Written;
 use writers::put_heading;
@@ -13,6 +15,7 @@ ghost use mathlib.Core.Path.{_≡_};
 ghost use Prim.Native.Nat.{_≤_};
 ghost use lib.ListN.{length};
 ghost use Rattle.algebra.specs.Lists.{over, joined};
+ghost use Rattle.algebra.specs.Permutations.{longest};
 ghost use Rattle.matrices.specs.Matrices.{SystemFits};
 ghost use Rattle.writers.specs.Writing.{frame};
 ghost use Rattle.scheme.specs.Round.{systemOf};
@@ -32,10 +35,10 @@ fn put_commitments(
     choices: &[u8],
     out: &mut [u8],
 )
-    requires { ⌜ SystemFits (now a) n m × CardFits n rounds (now pi) (now pi) (now choices) × (rounds ≤ 64) × (commitmentsSize rounds ≤ length (now out)) ⌝ }
+    requires { ⌜ SystemFits (now a) n m × CardFits n rounds (now pi) (now pi) (now choices) × (rounds ≤ longest) × (commitmentsSize rounds ≤ length (now out)) ⌝ }
     ensures { λ _. ⌜ now (out .exit) ≡ over (frame Kind.Commitments rounds 0 (joined rounds (commitmentsAt (systemOf (now (a .entry)) n m) (now (pi .entry)) (now (choices .entry))))) (now (out .entry)) ⌝ }
 {
-    put_heading(Kind::Commitments, rounds, 0, 64 * rounds, out);
+    put_heading(Kind::Commitments, rounds, 0, PAIR * rounds, out);
     commit_all(a, n, m, pi, rounds, choices, &mut out[5..]);
 }
 
@@ -76,9 +79,9 @@ pub fn begin_step(
         choices,
         out,
     );
-    let challenges = [0u8; 64];
+    let challenges = [0u8; LONGEST];
     Step {
-        told: Written::Wrote(5 + 64 * rounds),
+        told: Written::Wrote(5 + PAIR * rounds),
         next: Session {
             stage: COMMITTED,
             n: n,

@@ -1,4 +1,5 @@
 // Give up: record and choices are zeroed.
+use algebra::LONGEST;
 use card_rules::session::IDLE;
 use card_rules::session::Session;
 ghost use mathlib.Core.Path.{_≡_};
@@ -25,6 +26,6 @@ pub fn give_up_step(session: Session, choices: &mut [u8]) -> Session
         n: 0,
         m: 0,
         rounds: 0,
-        challenges: [0u8; 64],
+        challenges: [0u8; LONGEST],
     }
 }

@@ -11,6 +11,7 @@ use card_rules::session::record_fits;
 use frames::read::Read;
 use frames::read::read_frame;
 use kinds::Kind;
+use kinds::PAIR;
 use kinds::alone;
 use kinds::exactly;
 use kinds::within;
@@ -80,7 +81,7 @@ pub fn check_begin(
         secret,
         rounds,
         choices,
-        5 + 64 * rounds,
+        5 + PAIR * rounds,
         room,
     )
 }

@@ -1,5 +1,6 @@
 // The card's loops: all commitments, all first answers, all openings, each over the front of a body.
 use algebra::output::copy_at;
+use kinds::PAIR;
 use packed_bits::bit_at;
 use round::card::commitment_one;
 use round::card::commitment_zero;
@@ -13,20 +14,21 @@ ghost use lib.ListN.{length};
 ghost use Rattle.algebra.specs.Lists.{joined, over, overAt};
 ghost use Rattle.algebra.specs.Residues.{modulus};
 ghost use Rattle.matrices.specs.Matrices.{SystemFits};
+ghost use Rattle.kinds.specs.Kinds.{pairSize};
 ghost use Rattle.scheme.specs.Round.{systemOf};
 ghost use Rattle.rounds.specs.Layout.{RoundFits, CardFits};
 ghost use Rattle.rounds.specs.Rounds.{commitmentsAt, answerAt, openingAt};
 
 // Writes C0 and C1 of round k at their place.
 fn commit_at(a: &[u8], n: usize, m: usize, pi: &[u8], choices: &[u8], k: usize, out: &mut [u8])
-    requires { ⌜ SystemFits (now a) n m × RoundFits n (now pi) (now pi) (now choices) k × (k * 64 + 64 ≤ length (now out)) ⌝ }
-    ensures { λ _. ⌜ now (out .exit) ≡ overAt (commitmentsAt (systemOf (now (a .entry)) n m) (now (pi .entry)) (now (choices .entry)) k) (k * 64) (now (out .entry)) ⌝ }
+    requires { ⌜ SystemFits (now a) n m × RoundFits n (now pi) (now pi) (now choices) k × (k * pairSize + pairSize ≤ length (now out)) ⌝ }
+    ensures { λ _. ⌜ now (out .exit) ≡ overAt (commitmentsAt (systemOf (now (a .entry)) n m) (now (pi .entry)) (now (choices .entry)) k) (k * pairSize) (now (out .entry)) ⌝ }
 {
     let r = vector_of(choices, n, k);
     let sigma = permutation_of(choices, n, k);
     let zero = commitment_zero(a, n, m, r, sigma);
     let one = commitment_one(pi, r, sigma);
-    let at = k * 64;
+    let at = k * PAIR;
     copy_at(&zero, at, out);
     let next = at + 32;
     copy_at(&one, next, out);
@@ -42,7 +44,7 @@ pub fn commit_all(
     choices: &[u8],
     out: &mut [u8],
 )
-    requires { ⌜ SystemFits (now a) n m × CardFits n rounds (now pi) (now pi) (now choices) × (rounds * 64 ≤ length (now out)) ⌝ }
+    requires { ⌜ SystemFits (now a) n m × CardFits n rounds (now pi) (now pi) (now choices) × (rounds * pairSize ≤ length (now out)) ⌝ }
     ensures { λ _. ⌜ now (out .exit) ≡ over (joined rounds (commitmentsAt (systemOf (now (a .entry)) n m) (now (pi .entry)) (now (choices .entry)))) (now (out .entry)) ⌝ }
 {
     let mut k: usize = 0;

@@ -4,7 +4,7 @@ use mathlib.Core.List.{List}
 use Prim.Native.Nat.{ℕ, _≤_}
 use lib.ListN.{length}
 use Rattle.algebra.specs.Residues.{modulus, Residues}
-use Rattle.algebra.specs.Permutations.{IsPerm}
+use Rattle.algebra.specs.Permutations.{longest, IsPerm}
 use Rattle.matrices.specs.Matrices.{SystemFits}
 use Rattle.scheme.specs.Round.{System, systemOf, ValidKey}
 use Rattle.rounds.specs.Layout.{AllWell}
@@ -28,6 +28,6 @@ matrixOf k = systemOf (entriesOf k) (placesOf k) (rowsOf k)
 pub record LentFits (k : Keys) (N : ℕ) (choices : List ℕ) : Type 0 where
   pub keys : KeysFit k
   pub some : 1 ≤ N
-  pub most : N ≤ 64
+  pub most : N ≤ longest
   pub valid : ValidKey (matrixOf k) (publicOf k) (secretOf k)
   pub well : AllWell (matrixOf k) N choices

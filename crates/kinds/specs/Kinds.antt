@@ -18,7 +18,7 @@ within l x = leb (l .least) x && leb x (l .greatest)
 
 -- what is asked of a frame alone: n is 2 to 64, N is 1 to 64
 abbrev pub alone : Expected
-alone = record { places = limits 2 64; rounds = limits 1 64 }
+alone = record { places = limits 2 longest; rounds = limits 1 longest }
 
 -- what is asked inside a call: once n is known, and once N is known too
 abbrev pub ofPlaces : ℕ → Expected
@@ -62,11 +62,15 @@ alike e n = e .rounds
 abbrev none : Expected → ℕ → Limits
 none e a = limits 0 0
 
+-- the bytes of C0 and C1, the commitments of a round
+abbrev pub pairSize : ℕ
+pairSize = 64
+
 abbrev pub table : Kind → Row
 table System = row 1 1 SYSTEM 6 places below (λ (n m : ℕ). m * (n - m))
 table Public = row 2 1 PUBLIC 5 places none (λ (n z : ℕ). n)
 table Secret = row 3 1 SECRET 5 places none (λ (n z : ℕ). n)
-table Commitments = row 4 1 COMMITMENTS 5 rounds none (λ (N z : ℕ). 64 * N)
+table Commitments = row 4 1 COMMITMENTS 5 rounds none (λ (N z : ℕ). pairSize * N)
 table Challenges = row 5 1 CHALLENGES 5 rounds none (λ (N z : ℕ). N)
 table Answers = row 6 1 ANSWERS 6 places alike (λ (n N : ℕ). n * N)
 table Bits = row 7 1 BITS 5 rounds none (λ (N z : ℕ). (N + 7) / 8)

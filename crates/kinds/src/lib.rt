@@ -1,4 +1,5 @@
 // The table of kinds, and the limits of their numbers.
+use algebra::LONGEST;
 use refusals::buffer::ANSWERS;
 use refusals::buffer::BITS;
 use refusals::buffer::CHALLENGES;
@@ -22,6 +23,9 @@ pub enum Kind {
     Openings,
 }
 
+// The bytes of C0 and C1, the commitments of a round.
+pub const PAIR: usize = 64;
+
 // A number is fine from the least to the greatest.
 pub struct Limits {
     pub least: usize,
@@ -41,11 +45,11 @@ pub fn alone() -> Expected
     Expected {
         places: Limits {
             least: 2,
-            greatest: 64,
+            greatest: LONGEST,
         },
         rounds: Limits {
             least: 1,
-            greatest: 64,
+            greatest: LONGEST,
         },
     }
 }
@@ -61,7 +65,7 @@ pub fn of_places(n: usize) -> Expected
         },
         rounds: Limits {
             least: 1,
-            greatest: 64,
+            greatest: LONGEST,
         },
     }
 }
@@ -232,7 +236,7 @@ pub fn size_of(kind: Kind, first: usize, second: usize) -> usize
         Kind::System => rows_size(first, second),
         Kind::Public => first,
         Kind::Secret => first,
-        Kind::Commitments => 64 * first,
+        Kind::Commitments => PAIR * first,
         Kind::Challenges => first,
         Kind::Answers => first * second,
         Kind::Bits => (first + 7) / 8,

@@ -1,4 +1,5 @@
 // The session record as 68 bytes, for programs that keep it as such.
+use algebra::LONGEST;
 use algebra::output::copy_at;
 use algebra::output::copy_into;
 use card_rules::session::Session;
@@ -9,10 +10,10 @@ ghost use lib.ListN.{length};
 // Where the challenges start.
 const CHALLENGES_AT: usize = 4;
 
-fn challenges_of(record: &[u8]) -> [u8; 64] {
-    let mut challenges = [0u8; 64];
+fn challenges_of(record: &[u8]) -> [u8; LONGEST] {
+    let mut challenges = [0u8; LONGEST];
     let mut k: usize = 0;
-    while k < 64 {
+    while k < LONGEST {
         challenges[k] = byte_of(record, CHALLENGES_AT + k);
         k += 1;
     }
@@ -29,7 +30,7 @@ pub fn session_of(record: &[u8]) -> Session {
     }
 }
 
-fn put_challenges(challenges: [u8; 64], out: &mut [u8])
+fn put_challenges(challenges: [u8; LONGEST], out: &mut [u8])
     requires { ⌜ length (now out) ≡ 68 ⌝ }
 {
     copy_at(&challenges, CHALLENGES_AT, out);

@@ -8,6 +8,7 @@ use Rattle.algebra.specs.Lists.{stretch}
 use Rattle.algebra.specs.Residues.{modulus, Residues}
 use Rattle.algebra.specs.Permutations.{longest, IsPerm}
 use Rattle.packed_bits.specs.PackedBits.{bitAt}
+use Rattle.kinds.specs.Kinds.{pairSize}
 use Rattle.readers.specs.Choosing.{choiceSize, choiceOf, vectorOf, permutationOf}
 use Rattle.scheme.specs.Round.{System, Pair, pair, WellFormed, Opened, opened}
 
@@ -48,7 +49,7 @@ messages commitments challenges answers bits openings =
 -- what the code asks of the messages of N rounds: their sizes, challenges that are residues, openings that are permutations
 pub record MessagesFit (n N : ℕ) (x : Messages) : Type 0 where
   pub few : N < 256
-  pub commitments : length (x .commitments) ≡ N * 64
+  pub commitments : length (x .commitments) ≡ N * pairSize
   pub challenges : length (x .challenges) ≡ N
   pub residues : Residues modulus (x .challenges)
   pub answers : length (x .answers) ≡ N * n
@@ -63,12 +64,12 @@ half true both = take 32 (drop 32 both)
 
 -- where it starts among the commitments
 unfoldable pub halfStart : Bool → ℕ → ℕ
-halfStart false k = k * 64
-halfStart true k = k * 64 + 32
+halfStart false k = k * pairSize
+halfStart true k = k * pairSize + 32
 
 abbrev pub challengeAt : Messages → ℕ → ℕ
 challengeAt x k = getD (x .challenges) k 0
 
 -- what is opened of round k
 unfoldable pub openedAt : ℕ → Messages → ℕ → Opened
-openedAt n x k = opened (half (bitAt (x .bits) k) (stretch 64 k (x .commitments))) (stretch n k (x .answers)) (stretch n k (x .openings))
+openedAt n x k = opened (half (bitAt (x .bits) k) (stretch pairSize k (x .commitments))) (stretch n k (x .answers)) (stretch n k (x .openings))

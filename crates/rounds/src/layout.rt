@@ -1,7 +1,9 @@
 // Where round k lies.
+use kinds::PAIR;
 ghost use mathlib.Core.Path.{_≡_};
 ghost use Prim.Native.Nat.{_+_, _*_, _≤_, _<_};
 ghost use lib.ListN.{length};
+ghost use Rattle.kinds.specs.Kinds.{pairSize};
 ghost use Rattle.readers.specs.Choosing.{choiceSize};
 ghost use Rattle.rounds.specs.Layout.{pairAt, halfStart};
 
@@ -28,10 +30,10 @@ pub fn permutation_of(choices: &[u8], n: usize, k: usize) -> &[u8]
 // Where the commitment of a bit starts.
 pub fn half_start(bit: bool, k: usize) -> usize
     requires { ⌜ k < 256 ⌝ }
-    ensures { λ r. ⌜ (r ≡ halfStart bit k) × (r ≤ k * 64 + 32) ⌝ }
+    ensures { λ r. ⌜ (r ≡ halfStart bit k) × (r ≤ k * pairSize + 32) ⌝ }
 {
     if bit {
-        return k * 64 + 32;
+        return k * PAIR + 32;
     }
-    k * 64
+    k * PAIR
 }

@@ -4,11 +4,9 @@ use hosting::text::say;
 use hosting::text::say_hex;
 use hosting::text::say_number;
 use hosting::text::say_with;
+use kinds::PAIR;
 use packed_bits::bit_at;
 ghost use Prim.Native.Nat.{_<_};
-
-// The bytes of the commitments of a round, C0 and C1.
-const ROUND: usize = 64;
 
 // In four columns.
 fn say_value(x: u8) {
@@ -50,11 +48,11 @@ pub fn say_rows(label: &[u8], width: usize, bytes: &[u8])
 
 // What stands before byte i of the commitments.
 fn start_digest(i: usize) {
-    if i % ROUND == 0 {
-        say_with(b"  round ", i / ROUND);
+    if i % PAIR == 0 {
+        say_with(b"  round ", i / PAIR);
         say(b": C0 ");
     }
-    if i % ROUND == 32 {
+    if i % PAIR == 32 {
         say(b" C1 ");
     }
 }
@@ -65,7 +63,7 @@ pub fn say_digests(bytes: &[u8]) {
     while i < bytes.len() {
         start_digest(i);
         say_hex(bytes[i]);
-        if i % ROUND == 63 {
+        if i % PAIR == PAIR - 1 {
             say(b"\n");
         }
         i += 1;

@@ -23,6 +23,9 @@ shared-slice-read-say-hex c = search needs
 say-hex-requires : tie.Need-say-hex-requires Inv-loop μ-loop
 say-hex-requires c κs = search needs
 
+sub-if1 : tie.Need-sub-if1 Inv-loop μ-loop
+sub-if1 c = search needs
+
 slice-aggregate-say : tie.Need-slice-aggregate-say Inv-loop μ-loop
 slice-aggregate-say c = search needs
 
@@ -51,6 +54,7 @@ say-digests-spec =
     start-digest-requires
     shared-slice-read-say-hex
     say-hex-requires
+    sub-if1
     slice-aggregate-say
     say-requires
     add-i
