@@ -7,6 +7,9 @@ use card_rounds::answer_all;
 use card_rules::session::ANSWERED;
 use card_rules::session::Session;
 use card_steps::Step;
+use kinds::AFTER_ONE;
+use kinds::AFTER_TWO;
+use kinds::FIRST_NUMBER;
 use kinds::Kind;
 use refusals::Checked;
 use writers::Written;
@@ -38,7 +41,7 @@ fn put_answers(
     ensures { λ _. ⌜ now (out .exit) ≡ over (frame Kind.Answers n rounds (joined rounds (answerAt modulus n (now (v .entry)) (now (pi .entry)) (now (challenges .entry)) (now (choices .entry))))) (now (out .entry)) ⌝ }
 {
     put_heading(Kind::Answers, n, rounds, n * rounds, out);
-    answer_all(v, pi, n, rounds, challenges, choices, &mut out[6..]);
+    answer_all(v, pi, n, rounds, challenges, choices, &mut out[AFTER_TWO..]);
 }
 
 // The challenges kept: the new ones over the first of those before.
@@ -93,19 +96,19 @@ pub fn answer_step(
             next: session,
         };
     }
-    let n = wide(system[4]);
+    let n = wide(system[FIRST_NUMBER]);
     let rounds = wide(session.rounds);
     put_answers(
-        &public[5..],
-        &secret[5..],
+        &public[AFTER_ONE..],
+        &secret[AFTER_ONE..],
         n,
         rounds,
-        &message[5..],
+        &message[AFTER_ONE..],
         choices,
         out,
     );
     Step {
-        told: Written::Wrote(6 + n * rounds),
-        next: with_challenges(session, &message[5..]),
+        told: Written::Wrote(AFTER_TWO + n * rounds),
+        next: with_challenges(session, &message[AFTER_ONE..]),
     }
 }

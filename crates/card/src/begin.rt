@@ -6,8 +6,12 @@ use card_rounds::commit_all;
 use card_rules::session::COMMITTED;
 use card_rules::session::Session;
 use card_steps::Step;
+use kinds::AFTER_ONE;
+use kinds::AFTER_TWO;
+use kinds::FIRST_NUMBER;
 use kinds::Kind;
 use kinds::PAIR;
+use kinds::SECOND_NUMBER;
 use refusals::Checked;
 use writers::Written;
 use writers::put_heading;
@@ -39,7 +43,7 @@ fn put_commitments(
     ensures { λ _. ⌜ now (out .exit) ≡ over (frame Kind.Commitments rounds 0 (joined rounds (commitmentsAt (systemOf (now (a .entry)) n m) (now (pi .entry)) (now (choices .entry))))) (now (out .entry)) ⌝ }
 {
     put_heading(Kind::Commitments, rounds, 0, PAIR * rounds, out);
-    commit_all(a, n, m, pi, rounds, choices, &mut out[5..]);
+    commit_all(a, n, m, pi, rounds, choices, &mut out[AFTER_ONE..]);
 }
 
 // From idle or closed to committed.
@@ -68,20 +72,20 @@ pub fn begin_step(
             next: session,
         };
     }
-    let n = system[4];
-    let m = system[5];
+    let n = system[FIRST_NUMBER];
+    let m = system[SECOND_NUMBER];
     put_commitments(
-        &system[6..],
+        &system[AFTER_TWO..],
         wide(n),
         wide(m),
-        &secret[5..],
+        &secret[AFTER_ONE..],
         rounds,
         choices,
         out,
     );
     let challenges = [0u8; LONGEST];
     Step {
-        told: Written::Wrote(5 + PAIR * rounds),
+        told: Written::Wrote(AFTER_ONE + PAIR * rounds),
         next: Session {
             stage: COMMITTED,
             n: n,

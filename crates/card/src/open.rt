@@ -6,7 +6,11 @@ use card_rounds::open_all;
 use card_rules::session::CLOSED;
 use card_rules::session::Session;
 use card_steps::Step;
+use kinds::AFTER_ONE;
+use kinds::AFTER_TWO;
+use kinds::FIRST_NUMBER;
 use kinds::Kind;
+use kinds::SECOND_NUMBER;
 use own_check::own_failing;
 use refusals::Checked;
 use refusals::buffer::CHOICES;
@@ -33,7 +37,7 @@ fn put_openings(pi: &[u8], n: usize, rounds: usize, bits: &[u8], choices: &[u8],
     ensures { λ _. ⌜ now (out .exit) ≡ over (frame Kind.Openings n rounds (joined rounds (openingAt n (now (pi .entry)) (now (bits .entry)) (now (choices .entry))))) (now (out .entry)) ⌝ }
 {
     put_heading(Kind::Openings, n, rounds, n * rounds, out);
-    open_all(pi, n, rounds, bits, choices, &mut out[6..]);
+    open_all(pi, n, rounds, bits, choices, &mut out[AFTER_TWO..]);
 }
 
 // SELF: one function, called last. The frames and the record have passed their checks.
@@ -51,15 +55,15 @@ fn check_own(
     let rounds = wide(session.rounds);
     let kept = session.challenges;
     let failing = own_failing(
-        &system[6..],
-        wide(system[4]),
-        wide(system[5]),
-        &public[5..],
-        &secret[5..],
+        &system[AFTER_TWO..],
+        wide(system[FIRST_NUMBER]),
+        wide(system[SECOND_NUMBER]),
+        &public[AFTER_ONE..],
+        &secret[AFTER_ONE..],
         rounds,
         choices,
         kept,
-        &message[5..],
+        &message[AFTER_ONE..],
     );
     if failing != rounds {
         return refuse(SELF, CHOICES, failing);
@@ -119,13 +123,20 @@ pub fn open_step(
             next: session,
         };
     }
-    let n = wide(system[4]);
+    let n = wide(system[FIRST_NUMBER]);
     let rounds = wide(session.rounds);
-    put_openings(&secret[5..], n, rounds, &message[5..], &choices[..], out);
+    put_openings(
+        &secret[AFTER_ONE..],
+        n,
+        rounds,
+        &message[AFTER_ONE..],
+        &choices[..],
+        out,
+    );
     zero(choices);
     let kept = session.challenges;
     Step {
-        told: Written::Wrote(6 + n * rounds),
+        told: Written::Wrote(AFTER_TWO + n * rounds),
         next: Session {
             stage: CLOSED,
             n: session.n,

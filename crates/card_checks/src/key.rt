@@ -2,7 +2,11 @@
 use algebra::wide;
 use frames::read::Read;
 use frames::read::read_frame;
+use kinds::AFTER_ONE;
+use kinds::AFTER_TWO;
+use kinds::FIRST_NUMBER;
 use kinds::Kind;
+use kinds::SECOND_NUMBER;
 use kinds::of_places;
 use matrices::key_fault;
 use readers::read_system;
@@ -22,7 +26,7 @@ pub fn check_keys(system: &[u8], public: &[u8], secret: &[u8]) -> Checked
     if let Read::Refused(x) = read_system(system) {
         return Checked::Refused(x);
     }
-    let n = wide(system[4]);
+    let n = wide(system[FIRST_NUMBER]);
     if let Read::Refused(x) = read_frame(Kind::Public, of_places(n), public) {
         return Checked::Refused(x);
     }
@@ -37,9 +41,15 @@ pub fn check_valid(system: &[u8], public: &[u8], secret: &[u8]) -> Checked
     requires { ⌜ KeysFit (keys (now system) (now public) (now secret)) ⌝ }
     ensures { λ r. ⌜ means r ≡ validCheck (keys (now (system .entry)) (now (public .entry)) (now (secret .entry))) ⌝ }
 {
-    let n = wide(system[4]);
-    let m = wide(system[5]);
-    let fault = key_fault(&system[6..], n, m, &public[5..], &secret[5..]);
+    let n = wide(system[FIRST_NUMBER]);
+    let m = wide(system[SECOND_NUMBER]);
+    let fault = key_fault(
+        &system[AFTER_TWO..],
+        n,
+        m,
+        &public[AFTER_ONE..],
+        &secret[AFTER_ONE..],
+    );
     if fault != m {
         return refuse(KEY, SECRET, fault);
     }

@@ -10,8 +10,12 @@ use card_rules::session::kept_fit;
 use card_rules::session::record_fits;
 use frames::read::Read;
 use frames::read::read_frame;
+use kinds::AFTER_ONE;
+use kinds::AFTER_TWO;
+use kinds::FIRST_NUMBER;
 use kinds::Kind;
 use kinds::PAIR;
+use kinds::SECOND_NUMBER;
 use kinds::alone;
 use kinds::exactly;
 use kinds::within;
@@ -43,7 +47,7 @@ fn check_rest(
     requires { ⌜ KeysFit (keys (now system) (now public) (now secret)) × (rounds < 256) ⌝ }
     ensures { λ r. ⌜ means r ≡ restCheck (keys (now (system .entry)) (now (public .entry)) (now (secret .entry))) rounds (now (choices .entry)) need room ⌝ }
 {
-    if let Checked::Refused(x) = check_choices(wide(system[4]), rounds, choices) {
+    if let Checked::Refused(x) = check_choices(wide(system[FIRST_NUMBER]), rounds, choices) {
         return Checked::Refused(x);
     }
     if let Checked::Refused(x) = check_valid(system, public, secret) {
@@ -81,7 +85,7 @@ pub fn check_begin(
         secret,
         rounds,
         choices,
-        5 + PAIR * rounds,
+        AFTER_ONE + PAIR * rounds,
         room,
     )
 }
@@ -103,8 +107,8 @@ pub fn check_answer(
     if let Checked::Refused(x) = check_keys(system, public, secret) {
         return Checked::Refused(x);
     }
-    let n = wide(system[4]);
-    if !record_fits(session, n, wide(system[5])) {
+    let n = wide(system[FIRST_NUMBER]);
+    if !record_fits(session, n, wide(system[SECOND_NUMBER])) {
         return refuse(STAGE, NONE, 0);
     }
     let rounds = wide(session.rounds);
@@ -117,7 +121,7 @@ pub fn check_answer(
         secret,
         rounds,
         choices,
-        6 + n * rounds,
+        AFTER_TWO + n * rounds,
         room,
     )
 }
@@ -139,8 +143,8 @@ pub fn check_open(
     if let Checked::Refused(x) = check_keys(system, public, secret) {
         return Checked::Refused(x);
     }
-    let n = wide(system[4]);
-    if !record_fits(session, n, wide(system[5])) {
+    let n = wide(system[FIRST_NUMBER]);
+    if !record_fits(session, n, wide(system[SECOND_NUMBER])) {
         return refuse(STAGE, NONE, 0);
     }
     if !kept_fit(session) {
@@ -156,7 +160,7 @@ pub fn check_open(
         secret,
         rounds,
         choices,
-        6 + n * rounds,
+        AFTER_TWO + n * rounds,
         room,
     )
 }

@@ -8,6 +8,7 @@ use round::card::first_answer_into;
 use round::card::open_into;
 use rounds::layout::permutation_of;
 use rounds::layout::vector_of;
+use sha256::DIGEST;
 ghost use mathlib.Core.Path.{_≡_};
 ghost use Prim.Native.Nat.{_+_, _*_, _≤_, _<_};
 ghost use lib.ListN.{length};
@@ -30,7 +31,7 @@ fn commit_at(a: &[u8], n: usize, m: usize, pi: &[u8], choices: &[u8], k: usize, 
     let one = commitment_one(pi, r, sigma);
     let at = k * PAIR;
     copy_at(&zero, at, out);
-    let next = at + 32;
+    let next = at + DIGEST;
     copy_at(&one, next, out);
 }
 

@@ -2,8 +2,11 @@
 use algebra::wide;
 use bodies::check_content;
 use bodies::spare_clear;
+use kinds::AFTER_TWO;
 use kinds::Expected;
+use kinds::FIRST_NUMBER;
 use kinds::Kind;
+use kinds::SECOND_NUMBER;
 use kinds::buffer_of;
 use kinds::number_of;
 use kinds::numbers_fit;
@@ -70,8 +73,8 @@ fn second_of(kind: Kind, s: &[u8]) -> usize
     requires { ⌜ table kind .start ≤ length (now s) ⌝ }
     ensures { λ r. ⌜ (r ≡ secondOf kind (now (s .entry))) × (r < 256) ⌝ }
 {
-    if start_of(kind) == 6 {
-        return wide(s[5]);
+    if start_of(kind) == AFTER_TWO {
+        return wide(s[SECOND_NUMBER]);
     }
     0
 }
@@ -85,7 +88,7 @@ fn shape_fits(kind: Kind, expected: Expected, s: &[u8]) -> bool
     if s.len() < start {
         return false;
     }
-    let first = wide(s[4]);
+    let first = wide(s[FIRST_NUMBER]);
     let second = second_of(kind, s);
     if !numbers_fit(kind, expected, first, second) {
         return false;
@@ -108,7 +111,7 @@ pub fn read_frame(kind: Kind, expected: Expected, s: &[u8]) -> Read
         return Read::Refused(x);
     }
     let start = start_of(kind);
-    let first = wide(s[4]);
+    let first = wide(s[FIRST_NUMBER]);
     let second = second_of(kind, s);
     if let Checked::Refused(x) = check_content(kind, first, second, start, &s[start..]) {
         return Read::Refused(x);

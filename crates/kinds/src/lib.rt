@@ -23,6 +23,16 @@ pub enum Kind {
     Openings,
 }
 
+// Where the numbers of a body stand in a frame.
+pub const FIRST_NUMBER: usize = 4;
+
+pub const SECOND_NUMBER: usize = 5;
+
+// Where the rest of a body starts: after one number, or after two.
+pub const AFTER_ONE: usize = 5;
+
+pub const AFTER_TWO: usize = 6;
+
 // The bytes of C0 and C1, the commitments of a round.
 pub const PAIR: usize = 64;
 
@@ -136,14 +146,14 @@ pub fn start_of(kind: Kind) -> usize
     ensures { λ r. ⌜ (r ≡ table kind .start) × (5 ≤ r) × (r ≤ 6) ⌝ }
 {
     match kind {
-        Kind::System => 6,
-        Kind::Public => 5,
-        Kind::Secret => 5,
-        Kind::Commitments => 5,
-        Kind::Challenges => 5,
-        Kind::Answers => 6,
-        Kind::Bits => 5,
-        Kind::Openings => 6,
+        Kind::System => AFTER_TWO,
+        Kind::Public => AFTER_ONE,
+        Kind::Secret => AFTER_ONE,
+        Kind::Commitments => AFTER_ONE,
+        Kind::Challenges => AFTER_ONE,
+        Kind::Answers => AFTER_TWO,
+        Kind::Bits => AFTER_ONE,
+        Kind::Openings => AFTER_TWO,
     }
 }
 

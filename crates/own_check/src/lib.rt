@@ -8,6 +8,7 @@ use round::card::open_into;
 use round::register::passes;
 use rounds::layout::permutation_of;
 use rounds::layout::vector_of;
+use sha256::DIGEST;
 ghost use mathlib.Core.Path.{_≡_};
 ghost use Prim.Native.Nat.{ℕ, _*_, _≤_, _<_};
 ghost use lib.ListN.{length, getD};
@@ -28,7 +29,7 @@ fn commitment_of(
     pi: &[u8],
     r: &[u8],
     sigma: &[u8],
-) -> [u8; 32]
+) -> [u8; DIGEST]
     requires { ⌜ SystemFits (now a) n m × IsPerm n (now pi) × IsPerm n (now sigma) × (length (now r) ≡ n) ⌝ }
     ensures { λ d. ⌜ d ≡ digestOf (committed (systemOf (now (a .entry)) n m) (now (pi .entry)) bit (pair (now (r .entry)) (now (sigma .entry)))) ⌝ }
 {

@@ -2,6 +2,8 @@
 use crate::read_openings;
 use algebra::wide;
 use frames::read::Read;
+use kinds::AFTER_TWO;
+use kinds::FIRST_NUMBER;
 use refusals::Checked;
 use refusals::buffer::NONE;
 use refusals::number::SHAPE;
@@ -32,8 +34,8 @@ pub fn opening(frame: &[u8], round: usize) -> &[u8]
     if let Checked::Refused(_) = check_opening(frame, round) {
         return &frame[..0];
     }
-    let n = wide(frame[4]);
-    let from = 6 + round * n;
+    let n = wide(frame[FIRST_NUMBER]);
+    let from = AFTER_TWO + round * n;
     let to = from + n;
     &frame[from..to]
 }

@@ -2,6 +2,7 @@
 use algebra::wide;
 use frames::read::Read;
 use frames::read::read_frame;
+use kinds::FIRST_NUMBER;
 use kinds::Kind;
 use kinds::exactly;
 use kinds::of_places;
@@ -20,7 +21,7 @@ fn check_basis(system: &[u8], key: &[u8], commitments: &[u8]) -> Checked
     if let Read::Refused(x) = read_system(system) {
         return Checked::Refused(x);
     }
-    let expected = of_places(wide(system[4]));
+    let expected = of_places(wide(system[FIRST_NUMBER]));
     if let Read::Refused(x) = read_frame(Kind::Public, expected, key) {
         return Checked::Refused(x);
     }
@@ -73,7 +74,7 @@ pub fn check_frames(
     if let Checked::Refused(x) = check_basis(system, key, commitments) {
         return Checked::Refused(x);
     }
-    let n = wide(system[4]);
-    let rounds = wide(commitments[4]);
+    let n = wide(system[FIRST_NUMBER]);
+    let rounds = wide(commitments[FIRST_NUMBER]);
     check_exchange(n, rounds, challenges, answers, bits, openings)
 }

@@ -2,6 +2,7 @@
 use crate::check::check_frames;
 use crate::grade::enough;
 use algebra::wide;
+use kinds::FIRST_NUMBER;
 use refusals::Checked;
 use refusals::Refusal;
 use refusals::buffer::NONE;
@@ -34,7 +35,7 @@ pub fn verdict(
     ) {
         return Verdict::Refused(x);
     }
-    if !enough(grade, wide(commitments[4])) {
+    if !enough(grade, wide(commitments[FIRST_NUMBER])) {
         return Verdict::Refused(Refusal {
             number: WEAK,
             buffer: NONE,

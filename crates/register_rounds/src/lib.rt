@@ -1,5 +1,9 @@
 // The verdict of the rounds: all pass, or the first that does not is refused by its bit.
 use algebra::wide;
+use kinds::AFTER_ONE;
+use kinds::AFTER_TWO;
+use kinds::FIRST_NUMBER;
+use kinds::SECOND_NUMBER;
 use packed_bits::bit_at;
 use refusals::Refusal;
 use refusals::buffer::OPENINGS;
@@ -23,19 +27,19 @@ fn rounds_passed(
     requires { ⌜ SignOnFits (signOn (now system) (now key) (now commitments) (now challenges) (now answers) (now bits) (now openings)) ⌝ }
     ensures { λ r. ⌜ r ≡ roundsPassed (signOn (now (system .entry)) (now (key .entry)) (now (commitments .entry)) (now (challenges .entry)) (now (answers .entry)) (now (bits .entry)) (now (openings .entry))) ⌝ }
 {
-    let n = wide(system[4]);
-    let m = wide(system[5]);
-    let rounds = wide(commitments[4]);
+    let n = wide(system[FIRST_NUMBER]);
+    let m = wide(system[SECOND_NUMBER]);
+    let rounds = wide(commitments[FIRST_NUMBER]);
     first_failing(
-        &system[6..],
+        &system[AFTER_TWO..],
         n,
         m,
-        &key[5..],
-        &commitments[5..],
-        &challenges[5..],
-        &answers[6..],
-        &bits[5..],
-        &openings[6..],
+        &key[AFTER_ONE..],
+        &commitments[AFTER_ONE..],
+        &challenges[AFTER_ONE..],
+        &answers[AFTER_TWO..],
+        &bits[AFTER_ONE..],
+        &openings[AFTER_TWO..],
         rounds,
     )
 }
@@ -63,7 +67,7 @@ pub fn judge_rounds(
     requires { ⌜ SignOnFits (signOn (now system) (now key) (now commitments) (now challenges) (now answers) (now bits) (now openings)) ⌝ }
     ensures { λ r. ⌜ verdictMeans r ≡ roundsCheck (signOn (now (system .entry)) (now (key .entry)) (now (commitments .entry)) (now (challenges .entry)) (now (answers .entry)) (now (bits .entry)) (now (openings .entry))) ⌝ }
 {
-    let rounds = wide(commitments[4]);
+    let rounds = wide(commitments[FIRST_NUMBER]);
     let passed = rounds_passed(
         system,
         key,
@@ -76,7 +80,7 @@ pub fn judge_rounds(
     if passed == rounds {
         return Verdict::Accepted(rounds);
     }
-    let bit = bit_at(&bits[5..], passed);
+    let bit = bit_at(&bits[AFTER_ONE..], passed);
     Verdict::Refused(Refusal {
         number: number_of(bit),
         buffer: OPENINGS,

@@ -6,6 +6,7 @@ use algebra::permutation::compose_into;
 use algebra::permutation::permute_into;
 use algebra::residue::add_scaled_into;
 use matrices::product_into;
+use sha256::DIGEST;
 ghost use mathlib.Core.Path.{_≡_};
 ghost use Prim.Native.Nat.{_≤_};
 ghost use lib.ListN.{length};
@@ -24,7 +25,7 @@ fn commitment_zero_with(
     r: &[u8],
     sigma: &[u8],
     room: &mut [u8],
-) -> [u8; 32]
+) -> [u8; DIGEST]
     requires { ⌜ SystemFits (now a) n m × (length (now r) ≡ n) × (length (now sigma) ≡ n) × (m ≤ length (now room)) ⌝ }
     ensures { λ d. ⌜ d ≡ digestOf (committed0 (systemOf (now (a .entry)) n m) (pair (now (r .entry)) (now (sigma .entry)))) ⌝ }
 {
@@ -33,7 +34,7 @@ fn commitment_zero_with(
 }
 
 // C0: SHA-256 of sigma and A R.
-pub fn commitment_zero(a: &[u8], n: usize, m: usize, r: &[u8], sigma: &[u8]) -> [u8; 32]
+pub fn commitment_zero(a: &[u8], n: usize, m: usize, r: &[u8], sigma: &[u8]) -> [u8; DIGEST]
     requires { ⌜ SystemFits (now a) n m × (length (now r) ≡ n) × (length (now sigma) ≡ n) ⌝ }
     ensures { λ d. ⌜ d ≡ digestOf (committed0 (systemOf (now (a .entry)) n m) (pair (now (r .entry)) (now (sigma .entry)))) ⌝ }
 {
@@ -42,7 +43,13 @@ pub fn commitment_zero(a: &[u8], n: usize, m: usize, r: &[u8], sigma: &[u8]) -> 
 }
 
 // As commitment_one, with room for pi sigma and R_sigma.
-fn commitment_one_with(pi: &[u8], r: &[u8], sigma: &[u8], t: &mut [u8], y: &mut [u8]) -> [u8; 32]
+fn commitment_one_with(
+    pi: &[u8],
+    r: &[u8],
+    sigma: &[u8],
+    t: &mut [u8],
+    y: &mut [u8],
+) -> [u8; DIGEST]
     requires { ⌜ IsPerm (length (now pi)) (now pi) × IsPerm (length (now sigma)) (now sigma) × (length (now pi) ≡ length (now sigma)) × (length (now r) ≡ length (now sigma)) × (length (now sigma) ≤ longest) × (length (now sigma) ≤ length (now t)) × (length (now sigma) ≤ length (now y)) ⌝ }
     ensures { λ d. ⌜ d ≡ digestOf (committed1 (now (pi .entry)) (pair (now (r .entry)) (now (sigma .entry)))) ⌝ }
 {
@@ -53,7 +60,7 @@ fn commitment_one_with(pi: &[u8], r: &[u8], sigma: &[u8], t: &mut [u8], y: &mut 
 }
 
 // C1: SHA-256 of pi sigma and R_sigma.
-pub fn commitment_one(pi: &[u8], r: &[u8], sigma: &[u8]) -> [u8; 32]
+pub fn commitment_one(pi: &[u8], r: &[u8], sigma: &[u8]) -> [u8; DIGEST]
     requires { ⌜ IsPerm (length (now pi)) (now pi) × IsPerm (length (now sigma)) (now sigma) × (length (now pi) ≡ length (now sigma)) × (length (now r) ≡ length (now sigma)) × (length (now sigma) ≤ longest) ⌝ }
     ensures { λ d. ⌜ d ≡ digestOf (committed1 (now (pi .entry)) (pair (now (r .entry)) (now (sigma .entry)))) ⌝ }
 {

@@ -1,4 +1,5 @@
 // SHA-256 of two strings, one after the other.
+use sha256::DIGEST;
 use sha256::stream::absorb;
 use sha256::stream::finish;
 use sha256::stream::start;
@@ -8,7 +9,7 @@ ghost use Prim.Native.Nat.{_<_};
 ghost use lib.ListN.{length};
 ghost use Rattle.sha256.specs.Standard.{digestOf};
 
-pub fn hash_two(x: &[u8], y: &[u8]) -> [u8; 32]
+pub fn hash_two(x: &[u8], y: &[u8]) -> [u8; DIGEST]
     requires { ⌜ (length (now x) < 65536) × (length (now y) < 65536) ⌝ }
     ensures { λ r. ⌜ r ≡ digestOf (now (x .entry) ++ now (y .entry)) ⌝ }
 {

@@ -5,6 +5,7 @@ use algebra::permutation::permute_into;
 use algebra::permutation::unpermute_into;
 use algebra::residue::sub_scaled_into;
 use matrices::product_into;
+use sha256::DIGEST;
 ghost use mathlib.Core.Path.{_≡_};
 ghost use mathlib.Core.Bool.{true, false};
 ghost use mathlib.Core.List.{_++_};
@@ -26,7 +27,7 @@ fn called_zero_with(
     w: &[u8],
     u: &mut [u8],
     y: &mut [u8],
-) -> [u8; 32]
+) -> [u8; DIGEST]
     requires { ⌜ SystemFits (now a) n m × IsPerm (length (now sigma)) (now sigma) × (length (now sigma) ≡ n) × (length (now w) ≡ n) × (n ≤ length (now u)) × (m ≤ length (now y)) ⌝ }
     ensures { λ d. ⌜ d ≡ digestOf (now (sigma .entry) ++ productAt modulus (now (a .entry)) n m (now (sigma .entry)) (now (w .entry))) ⌝ }
 {
@@ -36,7 +37,7 @@ fn called_zero_with(
 }
 
 // SHA-256 of sigma and A_sigma W, which is A U.
-fn called_zero(a: &[u8], n: usize, m: usize, sigma: &[u8], w: &[u8]) -> [u8; 32]
+fn called_zero(a: &[u8], n: usize, m: usize, sigma: &[u8], w: &[u8]) -> [u8; DIGEST]
     requires { ⌜ SystemFits (now a) n m × IsPerm (length (now sigma)) (now sigma) × (length (now sigma) ≡ n) × (length (now w) ≡ n) ⌝ }
     ensures { λ d. ⌜ d ≡ digestOf (now (sigma .entry) ++ productAt modulus (now (a .entry)) n m (now (sigma .entry)) (now (w .entry))) ⌝ }
 {
@@ -46,7 +47,14 @@ fn called_zero(a: &[u8], n: usize, m: usize, sigma: &[u8], w: &[u8]) -> [u8; 32]
 }
 
 // As called_one, with room for V_tau and W - c·V_tau.
-fn called_one_with(v: &[u8], c: u8, tau: &[u8], w: &[u8], u: &mut [u8], y: &mut [u8]) -> [u8; 32]
+fn called_one_with(
+    v: &[u8],
+    c: u8,
+    tau: &[u8],
+    w: &[u8],
+    u: &mut [u8],
+    y: &mut [u8],
+) -> [u8; DIGEST]
     requires { ⌜ (c < modulus) × IsPerm (length (now tau)) (now tau) × (length (now v) ≡ length (now tau)) × (length (now w) ≡ length (now tau)) × (length (now tau) ≤ longest) × (length (now tau) ≤ length (now u)) × (length (now tau) ≤ length (now y)) ⌝ }
     ensures { λ d. ⌜ d ≡ digestOf (now (tau .entry) ++ subScaled modulus (now (w .entry)) c (permute (now (v .entry)) (now (tau .entry)))) ⌝ }
 {
@@ -57,7 +65,7 @@ fn called_one_with(v: &[u8], c: u8, tau: &[u8], w: &[u8], u: &mut [u8], y: &mut 
 }
 
 // SHA-256 of tau and W - c·V_tau.
-fn called_one(v: &[u8], c: u8, tau: &[u8], w: &[u8]) -> [u8; 32]
+fn called_one(v: &[u8], c: u8, tau: &[u8], w: &[u8]) -> [u8; DIGEST]
     requires { ⌜ (c < modulus) × IsPerm (length (now tau)) (now tau) × (length (now v) ≡ length (now tau)) × (length (now w) ≡ length (now tau)) × (length (now tau) ≤ longest) ⌝ }
     ensures { λ d. ⌜ d ≡ digestOf (now (tau .entry) ++ subScaled modulus (now (w .entry)) c (permute (now (v .entry)) (now (tau .entry)))) ⌝ }
 {
@@ -76,7 +84,7 @@ pub fn called_for(
     bit: bool,
     theta: &[u8],
     w: &[u8],
-) -> [u8; 32]
+) -> [u8; DIGEST]
     requires { ⌜ SystemFits (now a) n m × (length (now v) ≡ n) × (c < modulus) × IsPerm (length (now theta)) (now theta) × (length (now theta) ≡ n) × (length (now w) ≡ n) ⌝ }
     ensures { λ d. ⌜ d ≡ digestOf (calledFor (systemOf (now (a .entry)) n m) (now (v .entry)) c bit (now (theta .entry)) (now (w .entry))) ⌝ }
 {

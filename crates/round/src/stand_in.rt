@@ -5,6 +5,7 @@ use algebra::LONGEST;
 use algebra::output::copy_into;
 use algebra::permutation::permute_into;
 use algebra::residue::add_scaled_into;
+use sha256::DIGEST;
 ghost use mathlib.Core.Path.{_≡_};
 ghost use mathlib.Core.Bool.{true};
 ghost use Prim.Native.Nat.{_≤_, _<_};
@@ -26,7 +27,7 @@ pub fn stand_in_commitment(
     bit: bool,
     u: &[u8],
     theta: &[u8],
-) -> [u8; 32]
+) -> [u8; DIGEST]
     requires { ⌜ SystemFits (now a) n m × (length (now v) ≡ n) × (c < modulus) × (length (now u) ≡ n) × IsPerm (length (now theta)) (now theta) × (length (now theta) ≡ n) ⌝ }
     ensures { λ d. ⌜ d ≡ digestOf (standInCommitted (systemOf (now (a .entry)) n m) (now (v .entry)) c bit (pair (now (u .entry)) (now (theta .entry)))) ⌝ }
 {

@@ -1,5 +1,6 @@
 // Where round k lies.
 use kinds::PAIR;
+use sha256::DIGEST;
 ghost use mathlib.Core.Path.{_≡_};
 ghost use Prim.Native.Nat.{_+_, _*_, _≤_, _<_};
 ghost use lib.ListN.{length};
@@ -33,7 +34,7 @@ pub fn half_start(bit: bool, k: usize) -> usize
     ensures { λ r. ⌜ (r ≡ halfStart bit k) × (r ≤ k * pairSize + 32) ⌝ }
 {
     if bit {
-        return k * PAIR + 32;
+        return k * PAIR + DIGEST;
     }
     k * PAIR
 }

@@ -2,6 +2,7 @@
 use crate::layout::half_start;
 use packed_bits::bit_at;
 use round::register::passes;
+use sha256::DIGEST;
 ghost use mathlib.Core.Path.{_≡_};
 ghost use Prim.Native.Nat.{_<_};
 ghost use lib.ListN.{length};
@@ -29,7 +30,7 @@ fn passes_at(
 {
     let bit = bit_at(bits, k);
     let start = half_start(bit, k);
-    let end = start + 32;
+    let end = start + DIGEST;
     let from = k * n;
     let to = from + n;
     passes(

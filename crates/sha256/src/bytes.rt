@@ -1,4 +1,5 @@
 // The bytes of numbers, the highest byte first, and of a hash value: FIPS 180-4, sections 3.1 and 6.2.2.
+use crate::DIGEST;
 use compression::Words;
 ghost use mathlib.Core.Path.{_≡_};
 ghost use Prim.Native.Nat.{_+_, _≤_};
@@ -47,11 +48,11 @@ pub fn lay(buffer: &mut [u8], at: usize, part: &[u8])
 }
 
 // The bytes of a hash value, word by word.
-pub fn bytes_of(v: Words) -> [u8; 32]
+pub fn bytes_of(v: Words) -> [u8; DIGEST]
     ensures { λ r. ⌜ r ≡ bytesOf v ⌝ }
 {
     let words = [v.a, v.b, v.c, v.d, v.e, v.f, v.g, v.h];
-    let mut out = [0u8; 32];
+    let mut out = [0u8; DIGEST];
     let mut i: usize = 0;
     while i < 8 {
         let bytes = bytes_of_word(words[i]);

@@ -1,4 +1,5 @@
 // SHA-256 of a message that comes in parts: `start`, `absorb` each part, `finish`. No part is copied to another.
+use crate::DIGEST;
 use crate::bytes::bytes_of;
 use crate::bytes::bytes_of_count;
 use crate::bytes::lay;
@@ -133,7 +134,7 @@ fn lay_end(tail: &mut [u8], buffer: &[u8], n: usize)
 }
 
 // The digest of all that was absorbed.
-pub fn finish(s: Stream) -> [u8; 32]
+pub fn finish(s: Stream) -> [u8; DIGEST]
     requires { ⌜ s .count < 2 ^ 61 ⌝ }
     ensures { λ r. ⌜ ((m : List ℕ) → Absorbed s m → r ≡ digestOf m) ⌝ }
 {

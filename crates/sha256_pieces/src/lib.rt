@@ -1,5 +1,6 @@
 // The hash call with its message absorbed in pieces, for the vectors and the benchmark: however it is cut, the contract is the call's own.
 use refusals::Checked;
+use sha256::DIGEST;
 use sha256::Hashed;
 use sha256::LONGEST;
 use sha256::stream::absorb;
@@ -12,7 +13,7 @@ ghost use Rattle.sha256.specs.Call.{LONGEST, Hashes, shownOf, toldOf};
 ghost use Rattle.sha256.specs.Standard.{digestOf};
 
 // The digest of a message that is absorbed in pieces of `size` bytes, the last of them the rest.
-fn pieces(message: &[u8], size: usize) -> [u8; 32]
+fn pieces(message: &[u8], size: usize) -> [u8; DIGEST]
     requires { ⌜ (length (now message) ≤ LONGEST) × (0 < size) ⌝ }
     ensures { λ r. ⌜ r ≡ digestOf (now (message .entry)) ⌝ }
 {
@@ -45,7 +46,7 @@ pub fn in_pieces(message: &[u8], size: usize) -> Hashed
 // A digest as C takes it.
 #[repr(C)]
 pub struct Digest {
-    pub bytes: [u8; 32],
+    pub bytes: [u8; DIGEST],
 }
 
 // `in_pieces` for C: the digest alone, 32 zeros where the call is refused.

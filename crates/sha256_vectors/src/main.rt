@@ -1,6 +1,7 @@
 // Prints the digests of many messages, a line each: the length, the answer of the hash call, the digest in hex, and whether every cut of the message into pieces gives the same.
 // tests/sha256_vectors.py makes the same lines by an independent hash.
 use refusals::Checked;
+use sha256::DIGEST;
 ghost use mathlib.Core.Path.{_≡_};
 ghost use Prim.Native.Nat.{_≤_};
 ghost use lib.ListN.{length};
@@ -28,16 +29,16 @@ fn print_answer(answer: Checked) {
     }
 }
 
-fn print_digest(digest: [u8; 32]) {
+fn print_digest(digest: [u8; DIGEST]) {
     let mut j = 0;
-    while j < 32 {
+    while j < DIGEST {
         io::print_hex(1, digest[j] as u64, 2);
         j += 1;
     }
 }
 
 // Whether the message has that digest in two pieces, in three, and so on to `most`, or nearly so many.
-fn same_in_pieces(message: &[u8], digest: [u8; 32], most: usize) -> bool
+fn same_in_pieces(message: &[u8], digest: [u8; DIGEST], most: usize) -> bool
     requires { ⌜ most ≤ 64 ⌝ }
 {
     let mut pieces = 2;

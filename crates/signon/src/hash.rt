@@ -7,11 +7,9 @@ use refusals::Checked;
 use refusals::Refusal;
 use refusals::buffer::OUTPUT;
 use refusals::number::ROOM;
+use sha256::DIGEST;
 use sha256::hash;
 ghost use Rattle.signon.specs.Calls.{HashForC};
-
-// The bytes of a digest.
-const DIGEST: usize = 32;
 
 // The digest of a message of at most 65,535 bytes.
 #[no_mangle]

@@ -5,6 +5,7 @@ use card_for_c::answers::refusal;
 use card_for_c::answers::success;
 use frames::read::Read;
 use frames::read::read_frame;
+use kinds::FIRST_NUMBER;
 use kinds::Kind;
 use kinds::alone;
 use kinds::start_of;
@@ -89,7 +90,7 @@ pub extern "C" fn signon_check_opening(openings: &[u8], round: usize) -> Answer
     ensures { λ r. ⌜ r ≡ answerOf (openingTold (now (openings .entry)) round) ⌝ }
 {
     match check_opening(openings, round) {
-        Checked::Fine => success(start_of(Kind::Openings) + round * wide(openings[4])),
+        Checked::Fine => success(start_of(Kind::Openings) + round * wide(openings[FIRST_NUMBER])),
         Checked::Refused(x) => refusal(x),
     }
 }

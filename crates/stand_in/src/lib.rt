@@ -3,7 +3,11 @@ use algebra::MODULUS;
 use algebra::wide;
 use frames::read::Read;
 use frames::read::read_frame;
+use kinds::AFTER_ONE;
+use kinds::AFTER_TWO;
+use kinds::FIRST_NUMBER;
 use kinds::Kind;
+use kinds::SECOND_NUMBER;
 use kinds::of_places;
 use readers::choices::check_choices;
 use readers::read_system;
@@ -14,6 +18,7 @@ use refusals::buffer::OUTPUT;
 use refusals::number::ROOM;
 use refusals::number::SHAPE;
 use refusals::refuse;
+use sha256::DIGEST;
 use stand_in_round::put_round;
 use writers::Written;
 ghost use mathlib.Core.Path.{_≡_};
@@ -33,7 +38,7 @@ fn check_lent(c: usize, bit: usize, system: &[u8], key: &[u8], lent: &[u8]) -> C
     if let Read::Refused(x) = read_system(system) {
         return Checked::Refused(x);
     }
-    let n = wide(system[4]);
+    let n = wide(system[FIRST_NUMBER]);
     if let Read::Refused(x) = read_frame(Kind::Public, of_places(n), key) {
         return Checked::Refused(x);
     }
@@ -54,8 +59,8 @@ pub fn stand_in(
     if let Checked::Refused(x) = check_lent(c, bit, system, key, lent) {
         return Written::Refused(x);
     }
-    let n = wide(system[4]);
-    let need = 32 + n + n;
+    let n = wide(system[FIRST_NUMBER]);
+    let need = DIGEST + n + n;
     if out.len() < need {
         return Written::Refused(Refusal {
             number: ROOM,
@@ -63,12 +68,12 @@ pub fn stand_in(
             place: need,
         });
     }
-    let m = wide(system[5]);
+    let m = wide(system[SECOND_NUMBER]);
     put_round(
-        &system[6..],
+        &system[AFTER_TWO..],
         n,
         m,
-        &key[5..],
+        &key[AFTER_ONE..],
         c as u8,
         bit == 1,
         &lent[..n],

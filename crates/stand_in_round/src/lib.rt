@@ -3,6 +3,7 @@ use algebra::output::copy_at;
 use algebra::output::copy_into;
 use round::stand_in::stand_in_answer_into;
 use round::stand_in::stand_in_commitment;
+use sha256::DIGEST;
 ghost use mathlib.Core.Path.{_≡_};
 ghost use Prim.Native.Nat.{_+_, _≤_, _<_};
 ghost use lib.ListN.{length};
@@ -38,6 +39,6 @@ pub fn put_round(
 {
     let commitment = stand_in_commitment(a, n, m, v, c, bit, u, theta);
     copy_into(&commitment, out);
-    put_answer(v, c, bit, u, theta, 32, out);
-    copy_at(theta, 32 + n, out);
+    put_answer(v, c, bit, u, theta, DIGEST, out);
+    copy_at(theta, DIGEST + n, out);
 }

@@ -6,6 +6,7 @@ use hosting::text::say_number;
 use hosting::text::say_with;
 use kinds::PAIR;
 use packed_bits::bit_at;
+use sha256::DIGEST;
 ghost use Prim.Native.Nat.{_<_};
 
 // In four columns.
@@ -52,7 +53,7 @@ fn start_digest(i: usize) {
         say_with(b"  round ", i / PAIR);
         say(b": C0 ");
     }
-    if i % PAIR == 32 {
+    if i % PAIR == DIGEST {
         say(b" C1 ");
     }
 }
