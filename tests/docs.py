@@ -1,6 +1,6 @@
 #!/usr/bin/env python3
-"""Holds the docs to the repository: every function, file and law that they name is there, docs/READING.md has every must-fail edit and no other, and
-its line counts are right. Prints each fault.
+"""Holds the docs to the repository: every path of a function and every file that they name is there, and in docs/ every law whose name has a hyphen;
+docs/READING.md has every must-fail edit and no other, and its line counts are right. Prints each fault.
 
     python3 tests/docs.py
 
