@@ -1,5 +1,4 @@
 // Answer: all first answers are written, and the challenges kept.
-use algebra::LONGEST;
 use algebra::output::copy_into;
 use algebra::wide;
 use card_checks::order::check_answer;
@@ -11,6 +10,7 @@ use kinds::AFTER_ONE;
 use kinds::AFTER_TWO;
 use kinds::FIRST_NUMBER;
 use kinds::Kind;
+use kinds::MOST_ROUNDS;
 use refusals::Checked;
 use writers::Written;
 use writers::put_heading;
@@ -20,6 +20,7 @@ ghost use lib.ListN.{length};
 ghost use Rattle.algebra.specs.Lists.{over, joined};
 ghost use Rattle.algebra.specs.Residues.{modulus};
 ghost use Rattle.algebra.specs.Permutations.{longest};
+ghost use Rattle.kinds.specs.Kinds.{mostRounds};
 ghost use Rattle.writers.specs.Writing.{frame};
 ghost use Rattle.rounds.specs.Layout.{CardFits};
 ghost use Rattle.rounds.specs.Rounds.{answerAt};
@@ -37,7 +38,7 @@ fn put_answers(
     choices: &[u8],
     out: &mut [u8],
 )
-    requires { ⌜ CardFits n rounds (now v) (now pi) (now choices) × (n ≤ longest) × (rounds ≤ longest) × (rounds ≤ length (now challenges)) × (answersSize n rounds ≤ length (now out)) ⌝ }
+    requires { ⌜ CardFits n rounds (now v) (now pi) (now choices) × (n ≤ longest) × (rounds ≤ mostRounds) × (rounds ≤ length (now challenges)) × (answersSize n rounds ≤ length (now out)) ⌝ }
     ensures { λ _. ⌜ now (out .exit) ≡ over (frame Kind.Answers n rounds (joined rounds (answerAt modulus n (now (v .entry)) (now (pi .entry)) (now (challenges .entry)) (now (choices .entry))))) (now (out .entry)) ⌝ }
 {
     put_heading(Kind::Answers, n, rounds, n * rounds, out);
@@ -45,8 +46,8 @@ fn put_answers(
 }
 
 // The challenges kept: the new ones over the first of those before.
-fn keep(before: [u8; LONGEST], challenges: &[u8]) -> [u8; LONGEST]
-    requires { ⌜ length (now challenges) ≤ longest ⌝ }
+fn keep(before: [u8; MOST_ROUNDS], challenges: &[u8]) -> [u8; MOST_ROUNDS]
+    requires { ⌜ length (now challenges) ≤ mostRounds ⌝ }
     ensures { λ r. ⌜ r ≡ over (now (challenges .entry)) before ⌝ }
 {
     let mut kept = before;
@@ -56,7 +57,7 @@ fn keep(before: [u8; LONGEST], challenges: &[u8]) -> [u8; LONGEST]
 
 // The record with the challenges kept.
 fn with_challenges(session: Session, challenges: &[u8]) -> Session
-    requires { ⌜ length (now challenges) ≤ longest ⌝ }
+    requires { ⌜ length (now challenges) ≤ mostRounds ⌝ }
     ensures { λ r. ⌜ r ≡ answered session (now (challenges .entry)) ⌝ }
 {
     let before = session.challenges;

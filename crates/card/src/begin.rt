@@ -1,5 +1,4 @@
 // Begin: all commitments are written.
-use algebra::LONGEST;
 use algebra::wide;
 use card_checks::order::check_begin;
 use card_rounds::commit_all;
@@ -10,6 +9,7 @@ use kinds::AFTER_ONE;
 use kinds::AFTER_TWO;
 use kinds::FIRST_NUMBER;
 use kinds::Kind;
+use kinds::MOST_ROUNDS;
 use kinds::PAIR;
 use kinds::SECOND_NUMBER;
 use refusals::Checked;
@@ -19,8 +19,8 @@ ghost use mathlib.Core.Path.{_≡_};
 ghost use Prim.Native.Nat.{_≤_};
 ghost use lib.ListN.{length};
 ghost use Rattle.algebra.specs.Lists.{over, joined};
-ghost use Rattle.algebra.specs.Permutations.{longest};
 ghost use Rattle.matrices.specs.Matrices.{SystemFits};
+ghost use Rattle.kinds.specs.Kinds.{mostRounds};
 ghost use Rattle.writers.specs.Writing.{frame};
 ghost use Rattle.scheme.specs.Round.{systemOf};
 ghost use Rattle.rounds.specs.Layout.{CardFits};
@@ -39,7 +39,7 @@ fn put_commitments(
     choices: &[u8],
     out: &mut [u8],
 )
-    requires { ⌜ SystemFits (now a) n m × CardFits n rounds (now pi) (now pi) (now choices) × (rounds ≤ longest) × (commitmentsSize rounds ≤ length (now out)) ⌝ }
+    requires { ⌜ SystemFits (now a) n m × CardFits n rounds (now pi) (now pi) (now choices) × (rounds ≤ mostRounds) × (commitmentsSize rounds ≤ length (now out)) ⌝ }
     ensures { λ _. ⌜ now (out .exit) ≡ over (frame Kind.Commitments rounds 0 (joined rounds (commitmentsAt (systemOf (now (a .entry)) n m) (now (pi .entry)) (now (choices .entry))))) (now (out .entry)) ⌝ }
 {
     put_heading(Kind::Commitments, rounds, 0, PAIR * rounds, out);
@@ -83,7 +83,7 @@ pub fn begin_step(
         choices,
         out,
     );
-    let challenges = [0u8; LONGEST];
+    let challenges = [0u8; MOST_ROUNDS];
     Step {
         told: Written::Wrote(AFTER_ONE + PAIR * rounds),
         next: Session {

@@ -1,7 +1,7 @@
 // Give up: record and choices are zeroed.
-use algebra::LONGEST;
 use card_rules::session::IDLE;
 use card_rules::session::Session;
+use kinds::MOST_ROUNDS;
 ghost use mathlib.Core.Path.{_≡_};
 ghost use Rattle.card_steps.specs.Steps.{zeroed, GiveUpStep};
 
@@ -26,6 +26,6 @@ pub fn give_up_step(session: Session, choices: &mut [u8]) -> Session
         n: 0,
         m: 0,
         rounds: 0,
-        challenges: [0u8; LONGEST],
+        challenges: [0u8; MOST_ROUNDS],
     }
 }

@@ -24,6 +24,7 @@ ghost use lib.ListN.{length};
 ghost use Rattle.refusals.specs.Told.{means};
 ghost use Rattle.algebra.specs.Lists.{over, joined};
 ghost use Rattle.algebra.specs.Permutations.{longest};
+ghost use Rattle.kinds.specs.Kinds.{mostRounds};
 ghost use Rattle.writers.specs.Writing.{frame};
 ghost use Rattle.rounds.specs.Layout.{CardFits};
 ghost use Rattle.rounds.specs.Rounds.{openingAt};
@@ -33,7 +34,7 @@ ghost use Rattle.card_steps.specs.Steps.{OpenReady, ownCheck, openRefusal, Open
 
 // Writes the frame of all openings, for which there is room.
 fn put_openings(pi: &[u8], n: usize, rounds: usize, bits: &[u8], choices: &[u8], out: &mut [u8])
-    requires { ⌜ CardFits n rounds (now pi) (now pi) (now choices) × (n ≤ longest) × (rounds ≤ longest) × (rounds ≤ 8 * length (now bits)) × (openingsSize n rounds ≤ length (now out)) ⌝ }
+    requires { ⌜ CardFits n rounds (now pi) (now pi) (now choices) × (n ≤ longest) × (rounds ≤ mostRounds) × (rounds ≤ 8 * length (now bits)) × (openingsSize n rounds ≤ length (now out)) ⌝ }
     ensures { λ _. ⌜ now (out .exit) ≡ over (frame Kind.Openings n rounds (joined rounds (openingAt n (now (pi .entry)) (now (bits .entry)) (now (choices .entry))))) (now (out .entry)) ⌝ }
 {
     put_heading(Kind::Openings, n, rounds, n * rounds, out);

@@ -4,8 +4,9 @@ use mathlib.Core.List.{List}
 use Prim.Native.Nat.{ℕ, _≤_}
 use lib.ListN.{length}
 use Rattle.algebra.specs.Residues.{modulus, Residues}
-use Rattle.algebra.specs.Permutations.{longest, IsPerm}
+use Rattle.algebra.specs.Permutations.{IsPerm}
 use Rattle.matrices.specs.Matrices.{SystemFits}
+use Rattle.kinds.specs.Kinds.{mostRounds}
 use Rattle.scheme.specs.Round.{System, systemOf, ValidKey}
 use Rattle.rounds.specs.Layout.{AllWell}
 use Rattle.card_rules.specs.Keys.{Keys, placesOf, rowsOf, entriesOf, publicOf, secretOf}
@@ -28,6 +29,6 @@ matrixOf k = systemOf (entriesOf k) (placesOf k) (rowsOf k)
 pub record LentFits (k : Keys) (N : ℕ) (choices : List ℕ) : Type 0 where
   pub keys : KeysFit k
   pub some : 1 ≤ N
-  pub most : N ≤ longest
+  pub most : N ≤ mostRounds
   pub valid : ValidKey (matrixOf k) (publicOf k) (secretOf k)
   pub well : AllWell (matrixOf k) N choices

@@ -1,12 +1,12 @@
 // The session record, its stages, and the tests of STAGE.
-use algebra::LONGEST;
 use algebra::MODULUS;
 use algebra::wide;
+use kinds::MOST_ROUNDS;
 use kinds::alone;
 use kinds::within;
 ghost use mathlib.Core.Path.{_≡_};
 ghost use Prim.Native.Nat.{_≤_};
-ghost use Rattle.algebra.specs.Permutations.{longest};
+ghost use Rattle.kinds.specs.Kinds.{mostRounds};
 ghost use Rattle.card_rules.specs.Asking.{atRest, recordFits, keptFit};
 
 // What the host keeps of a sign-on between the card's calls. Any bytes are a record.
@@ -16,7 +16,7 @@ pub struct Session {
     pub n: u8,
     pub m: u8,
     pub rounds: u8,
-    pub challenges: [u8; LONGEST],
+    pub challenges: [u8; MOST_ROUNDS],
 }
 
 pub const IDLE: u8 = 0;
@@ -52,7 +52,7 @@ pub fn record_fits(session: Session, n: usize, m: usize) -> bool
 
 // Whether the first N challenges kept are residues.
 pub fn kept_fit(session: Session) -> bool
-    requires { ⌜ session .rounds ≤ longest ⌝ }
+    requires { ⌜ session .rounds ≤ mostRounds ⌝ }
     ensures { λ r. ⌜ r ≡ keptFit (session .rounds) (session .challenges) ⌝ }
 {
     let kept = session.challenges;

@@ -9,7 +9,7 @@ use Rattle.refusals.specs.Buffer.{CHOICES}
 use Rattle.refusals.specs.Told.{Told, done, first, demand}
 use Rattle.algebra.specs.Lists.{joined, over}
 use Rattle.algebra.specs.Residues.{modulus}
-use Rattle.algebra.specs.Permutations.{longest}
+use Rattle.kinds.specs.Kinds.{mostRounds}
 use Rattle.kinds.specs.declared.Kind.the-variants.{Commitments, Challenges, Answers, Bits, Openings}
 use Rattle.writers.specs.declared.Written.{Written}
 use Rattle.writers.specs.declared.Written.the-variants.{Wrote, Refused}
@@ -35,7 +35,7 @@ unfoldable pub beginTold : Session → ℕ → Keys → List ℕ → ℕ → Tol
 beginTold s N k choices room = first (beginCheck s N k choices room) (done (commitmentsSize N ∷ []))
 
 unfoldable pub begun : ℕ → Keys → Session
-begun N k = record { stage = COMMITTED; n = placesOf k; m = rowsOf k; rounds = N; challenges = replicate longest 0 }
+begun N k = record { stage = COMMITTED; n = placesOf k; m = rowsOf k; rounds = N; challenges = replicate mostRounds 0 }
 
 unfoldable pub commitmentsOf : ℕ → Keys → List ℕ → List ℕ
 commitmentsOf N k choices = joined N (commitmentsAt (matrixOf k) (secretOf k) choices)
@@ -107,7 +107,7 @@ pub record OpenStep (s : Session) (k : Keys) (message choices out : List ℕ) (s
 -- ---- give up
 
 unfoldable pub fresh : Session
-fresh = record { stage = IDLE; n = 0; m = 0; rounds = 0; challenges = replicate longest 0 }
+fresh = record { stage = IDLE; n = 0; m = 0; rounds = 0; challenges = replicate mostRounds 0 }
 
 -- never refused
 pub record GiveUpStep (s : Session) (choices : List ℕ) (next : Session) (left : List ℕ) : Type 0 where

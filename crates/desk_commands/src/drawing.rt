@@ -13,6 +13,7 @@ use hosting::bytes::front;
 use hosting::text::say;
 use hosting::text::say_with;
 use kinds::Kind;
+use kinds::MOST_ROUNDS;
 use kinds::size_of;
 use refusals::buffer::RANDOM;
 
@@ -57,7 +58,7 @@ fn choices_size(n: usize, rounds: usize) -> usize {
     if LONGEST < n {
         return 0;
     }
-    if LONGEST < rounds {
+    if MOST_ROUNDS < rounds {
         return 0;
     }
     2 * size_of(Kind::Answers, n, rounds)

@@ -1,10 +1,10 @@
 // The card's choices: for each round R and then sigma.
 use crate::places_fit;
 use crate::refuse;
-use algebra::LONGEST;
 use algebra::MODULUS;
 use draw_rules::Taken;
 use kinds::Limits;
+use kinds::MOST_ROUNDS;
 use kinds::within;
 use random::draw::Used;
 use random::draw::measure_permutation;
@@ -21,6 +21,7 @@ ghost use mathlib.Core.Path.{_≡_};
 ghost use Prim.Native.Nat.{_*_, _≤_, _<_};
 ghost use lib.ListN.{length};
 ghost use Rattle.algebra.specs.Permutations.{longest};
+ghost use Rattle.kinds.specs.Kinds.{mostRounds};
 ghost use Rattle.random.specs.Drawings.{usedBy, drawnOver, Enough};
 ghost use Rattle.readers.specs.Choosing.{choiceSize};
 ghost use Rattle.draw_rules.specs.Making.{drawChoice, drawChoices};
@@ -128,7 +129,7 @@ fn draw_choices_up_to(
 
 // Draws the choices of N rounds.
 pub fn draw_choices(n: usize, rounds: usize, random: &[u8], out: &mut [u8]) -> Taken
-    ensures { λ r. ⌜ Draws (bare (choicesFit longest n rounds)) (rounds * choiceSize n) (drawChoices n rounds (now (random .entry))) (now (random .entry)) (now (out .entry)) r (now (out .exit)) ⌝ }
+    ensures { λ r. ⌜ Draws (bare (choicesFit mostRounds n rounds)) (rounds * choiceSize n) (drawChoices n rounds (now (random .entry))) (now (random .entry)) (now (out .entry)) r (now (out .exit)) ⌝ }
 {
-    draw_choices_up_to(LONGEST, n, rounds, random, out)
+    draw_choices_up_to(MOST_ROUNDS, n, rounds, random, out)
 }

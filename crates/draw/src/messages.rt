@@ -2,10 +2,10 @@
 use crate::frame_size;
 use crate::refuse;
 use crate::rounds_fit;
-use algebra::LONGEST;
 use algebra::MODULUS;
 use draw_rules::Taken;
 use kinds::Kind;
+use kinds::MOST_ROUNDS;
 use kinds::size_of;
 use packed_bits::clear_unused;
 use random::draw::Used;
@@ -21,9 +21,8 @@ use writers::put_frame;
 ghost use mathlib.Core.Path.{_≡_};
 ghost use Prim.Native.Nat.{_≤_, _<_};
 ghost use lib.ListN.{length};
-ghost use Rattle.algebra.specs.Permutations.{longest};
 ghost use Rattle.random.specs.Drawings.{drawnOver, Enough};
-ghost use Rattle.kinds.specs.Kinds.{alone, within, frameSize};
+ghost use Rattle.kinds.specs.Kinds.{mostRounds, alone, within, frameSize};
 ghost use Rattle.packed_bits.specs.Clearing.{packedSize};
 ghost use Rattle.random.specs.Sequences.{someBelow, byteLimit, drawResidues};
 ghost use Rattle.draw_rules.specs.Making.{drawChallenges, drawBits};
@@ -54,16 +53,16 @@ pub fn draw_challenges(rounds: usize, random: &[u8], out: &mut [u8]) -> Taken
 
 // Writes N challenges, for which the bytes suffice.
 fn write_challenges(rounds: usize, random: &[u8], out: &mut [u8])
-    requires { ⌜ Enough (drawResidues rounds (now random) 0) × (rounds ≤ longest) × (frameSize Kind.Challenges rounds 0 ≤ length (now out)) ⌝ }
+    requires { ⌜ Enough (drawResidues rounds (now random) 0) × (rounds ≤ mostRounds) × (frameSize Kind.Challenges rounds 0 ≤ length (now out)) ⌝ }
     ensures { λ _. ⌜ now (out .exit) ≡ drawnOver (drawChallenges rounds (now (random .entry))) (now (out .entry)) ⌝ }
 {
-    let mut room = [0u8; LONGEST];
+    let mut room = [0u8; MOST_ROUNDS];
     write_challenges_with(rounds, random, out, &mut room);
 }
 
 // As write_challenges, with room for the residues.
 fn write_challenges_with(rounds: usize, random: &[u8], out: &mut [u8], room: &mut [u8])
-    requires { ⌜ Enough (drawResidues rounds (now random) 0) × (rounds ≤ longest) × (frameSize Kind.Challenges rounds 0 ≤ length (now out)) × (longest ≤ length (now room)) ⌝ }
+    requires { ⌜ Enough (drawResidues rounds (now random) 0) × (rounds ≤ mostRounds) × (frameSize Kind.Challenges rounds 0 ≤ length (now out)) × (mostRounds ≤ length (now room)) ⌝ }
     ensures { λ _. ⌜ now (out .exit) ≡ drawnOver (drawChallenges rounds (now (random .entry))) (now (out .entry)) ⌝ }
 {
     write_below(MODULUS, rounds, random, 0, room);
@@ -92,16 +91,16 @@ pub fn draw_bits(rounds: usize, random: &[u8], out: &mut [u8]) -> Taken
 
 // Writes N bits, for which the bytes suffice.
 fn write_bits(rounds: usize, random: &[u8], out: &mut [u8])
-    requires { ⌜ Enough (someBelow byteLimit (packedSize rounds) (now random) 0) × (0 < rounds) × (rounds ≤ longest) × (frameSize Kind.Bits rounds 0 ≤ length (now out)) ⌝ }
+    requires { ⌜ Enough (someBelow byteLimit (packedSize rounds) (now random) 0) × (0 < rounds) × (rounds ≤ mostRounds) × (frameSize Kind.Bits rounds 0 ≤ length (now out)) ⌝ }
     ensures { λ _. ⌜ now (out .exit) ≡ drawnOver (drawBits rounds (now (random .entry))) (now (out .entry)) ⌝ }
 {
-    let mut room = [0u8; LONGEST];
+    let mut room = [0u8; MOST_ROUNDS];
     write_bits_with(rounds, random, out, &mut room);
 }
 
 // As write_bits, with room for the bytes.
 fn write_bits_with(rounds: usize, random: &[u8], out: &mut [u8], room: &mut [u8])
-    requires { ⌜ Enough (someBelow byteLimit (packedSize rounds) (now random) 0) × (0 < rounds) × (rounds ≤ longest) × (frameSize Kind.Bits rounds 0 ≤ length (now out)) × (longest ≤ length (now room)) ⌝ }
+    requires { ⌜ Enough (someBelow byteLimit (packedSize rounds) (now random) 0) × (0 < rounds) × (rounds ≤ mostRounds) × (frameSize Kind.Bits rounds 0 ≤ length (now out)) × (mostRounds ≤ length (now room)) ⌝ }
     ensures { λ _. ⌜ now (out .exit) ≡ drawnOver (drawBits rounds (now (random .entry))) (now (out .entry)) ⌝ }
 {
     let size = size_of(Kind::Bits, rounds, 0);

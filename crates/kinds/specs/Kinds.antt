@@ -16,9 +16,13 @@ limits least greatest = record { least = least; greatest = greatest }
 abbrev pub within : Limits → ℕ → Bool
 within l x = leb (l .least) x && leb x (l .greatest)
 
+-- N is at most this
+abbrev pub mostRounds : ℕ
+mostRounds = 64
+
 -- what is asked of a frame alone: n is 2 to 64, N is 1 to 64
 abbrev pub alone : Expected
-alone = record { places = limits 2 longest; rounds = limits 1 longest }
+alone = record { places = limits 2 longest; rounds = limits 1 mostRounds }
 
 -- what is asked inside a call: once n is known, and once N is known too
 abbrev pub ofPlaces : ℕ → Expected
@@ -30,7 +34,7 @@ exactly n N = record { places = limits n n; rounds = limits N N }
 -- what is asked inside a call asks no more of the code than a frame alone does
 pub record Modest (e : Expected) : Type 0 where
   pub places : e .places .greatest ≤ longest
-  pub rounds : e .rounds .greatest ≤ longest
+  pub rounds : e .rounds .greatest ≤ mostRounds
 
 -- a kind: its number, version and buffer; where the rest of the body starts, after one number or two; the limits of the first number, and of
 -- the second by the first (0 where there is none); and how many bytes the rest has by the numbers

@@ -33,6 +33,9 @@ pub const AFTER_ONE: usize = 5;
 
 pub const AFTER_TWO: usize = 6;
 
+// The most that N is.
+pub const MOST_ROUNDS: usize = 64;
+
 // The bytes of C0 and C1, the commitments of a round.
 pub const PAIR: usize = 64;
 
@@ -59,7 +62,7 @@ pub fn alone() -> Expected
         },
         rounds: Limits {
             least: 1,
-            greatest: LONGEST,
+            greatest: MOST_ROUNDS,
         },
     }
 }
@@ -75,7 +78,7 @@ pub fn of_places(n: usize) -> Expected
         },
         rounds: Limits {
             least: 1,
-            greatest: LONGEST,
+            greatest: MOST_ROUNDS,
         },
     }
 }

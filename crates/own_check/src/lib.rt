@@ -1,5 +1,6 @@
 // The card's own check: commitments and first answers formed anew, round by round, and looked at as the register would.
 use algebra::LONGEST;
+use kinds::MOST_ROUNDS;
 use packed_bits::bit_at;
 use round::card::commitment_one;
 use round::card::commitment_zero;
@@ -13,8 +14,9 @@ ghost use mathlib.Core.Path.{_≡_};
 ghost use Prim.Native.Nat.{ℕ, _*_, _≤_, _<_};
 ghost use lib.ListN.{length, getD};
 ghost use Rattle.algebra.specs.Residues.{modulus};
-ghost use Rattle.algebra.specs.Permutations.{longest, IsPerm};
+ghost use Rattle.algebra.specs.Permutations.{IsPerm};
 ghost use Rattle.matrices.specs.Matrices.{SystemFits};
+ghost use Rattle.kinds.specs.Kinds.{mostRounds};
 ghost use Rattle.sha256.specs.Standard.{digestOf};
 ghost use Rattle.scheme.specs.Round.{systemOf, pair};
 ghost use Rattle.rounds.specs.Layout.{CardFits};
@@ -91,10 +93,10 @@ pub fn own_failing(
     pi: &[u8],
     rounds: usize,
     choices: &[u8],
-    challenges: [u8; LONGEST],
+    challenges: [u8; MOST_ROUNDS],
     bits: &[u8],
 ) -> usize
-    requires { ⌜ SystemFits (now a) n m × CardFits n rounds (now v) (now pi) (now choices) × (rounds ≤ longest) × ((j : ℕ) → j < rounds → getD challenges j 0 < modulus) × (rounds ≤ 8 * length (now bits)) ⌝ }
+    requires { ⌜ SystemFits (now a) n m × CardFits n rounds (now v) (now pi) (now choices) × (rounds ≤ mostRounds) × ((j : ℕ) → j < rounds → getD challenges j 0 < modulus) × (rounds ≤ 8 * length (now bits)) ⌝ }
     ensures { λ r. ⌜ r ≡ ownFailing (systemOf (now (a .entry)) n m) (now (v .entry)) (now (pi .entry)) rounds (now (choices .entry)) challenges (now (bits .entry)) ⌝ }
 {
     let mut k: usize = 0;

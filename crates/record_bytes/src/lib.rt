@@ -1,19 +1,19 @@
 // The session record as 68 bytes, for programs that keep it as such.
-use algebra::LONGEST;
 use algebra::output::copy_at;
 use algebra::output::copy_into;
 use card_rules::session::Session;
 use hosting::bytes::byte_of;
+use kinds::MOST_ROUNDS;
 ghost use mathlib.Core.Path.{_≡_};
 ghost use lib.ListN.{length};
 
 // Where the challenges start.
 const CHALLENGES_AT: usize = 4;
 
-fn challenges_of(record: &[u8]) -> [u8; LONGEST] {
-    let mut challenges = [0u8; LONGEST];
+fn challenges_of(record: &[u8]) -> [u8; MOST_ROUNDS] {
+    let mut challenges = [0u8; MOST_ROUNDS];
     let mut k: usize = 0;
-    while k < LONGEST {
+    while k < MOST_ROUNDS {
         challenges[k] = byte_of(record, CHALLENGES_AT + k);
         k += 1;
     }
@@ -30,7 +30,7 @@ pub fn session_of(record: &[u8]) -> Session {
     }
 }
 
-fn put_challenges(challenges: [u8; LONGEST], out: &mut [u8])
+fn put_challenges(challenges: [u8; MOST_ROUNDS], out: &mut [u8])
     requires { ⌜ length (now out) ≡ 68 ⌝ }
 {
     copy_at(&challenges, CHALLENGES_AT, out);

@@ -12,6 +12,7 @@ ghost use mathlib.Core.Path.{_≡_};
 ghost use Prim.Native.Nat.{_≤_};
 ghost use Rattle.refusals.specs.Told.{means};
 ghost use Rattle.algebra.specs.Permutations.{longest};
+ghost use Rattle.kinds.specs.Kinds.{mostRounds};
 ghost use Rattle.register_rules.specs.Verdict.{signOn, basisCheck, exchangeCheck, framesCheck};
 
 // The system, the public key and the commitments, which fix n and N.
@@ -40,7 +41,7 @@ fn check_exchange(
     bits: &[u8],
     openings: &[u8],
 ) -> Checked
-    requires { ⌜ (n ≤ longest) × (rounds ≤ longest) ⌝ }
+    requires { ⌜ (n ≤ longest) × (rounds ≤ mostRounds) ⌝ }
     ensures { λ r. ⌜ means r ≡ exchangeCheck n rounds (now (challenges .entry)) (now (answers .entry)) (now (bits .entry)) (now (openings .entry)) ⌝ }
 {
     let expected = exactly(n, rounds);

@@ -7,10 +7,9 @@ use draw::messages::draw_challenges;
 use draw::permutation::draw_permutation;
 use kinds::Kind;
 ghost use Prim.Native.Nat.{_*_};
-ghost use Rattle.algebra.specs.Permutations.{longest};
 ghost use Rattle.random.specs.Drawings.{drawPermutation};
 ghost use Rattle.readers.specs.Choosing.{choiceSize};
-ghost use Rattle.kinds.specs.Kinds.{alone, within, frameSize};
+ghost use Rattle.kinds.specs.Kinds.{mostRounds, alone, within, frameSize};
 ghost use Rattle.draw_rules.specs.Making.{drawChallenges, drawBits, drawChoices};
 ghost use Rattle.draw_rules.specs.Telling.{bare, choicesFit};
 ghost use Rattle.signon.specs.Calls.{DrawForC};
@@ -47,7 +46,7 @@ pub extern "C" fn signon_draw_choices(
     random: &[u8],
     out: &mut [u8],
 ) -> Answer
-    ensures { λ r. ⌜ DrawForC (bare (choicesFit longest n rounds)) (rounds * choiceSize n) (drawChoices n rounds (now (random .entry))) (now (random .entry)) (now (out .entry)) r (now (out .exit)) ⌝ }
+    ensures { λ r. ⌜ DrawForC (bare (choicesFit mostRounds n rounds)) (rounds * choiceSize n) (drawChoices n rounds (now (random .entry))) (now (random .entry)) (now (out .entry)) r (now (out .exit)) ⌝ }
 {
     of_drawing(draw_choices(n, rounds, random, out))
 }
