@@ -10,9 +10,17 @@
 enum { MOST_BYTES = 9000, TURNS = 4 };
 enum { LENT_SYSTEM, LENT_PUBLIC_KEY, LENT_SECRET_KEY, LENT_MESSAGE, LENT_CHOICES, LENT_OUT, LENT };
 
+/* The card's calls, each with the stage that it starts from. */
+enum { STEPS = 3 };
+static const struct step {
+    int call;
+    const char *name;
+    uint8_t stage;
+} STEP[STEPS] = {{BEGIN, "begin", SIGNON_IDLE}, {ANSWER, "answer", SIGNON_COMMITTED}, {OPEN, "open", SIGNON_ANSWERED}};
+
 /* What is lent to a call, with the record. */
 struct lending {
-    int call;
+    const struct step *step;
     size_t rounds;
     struct signon_record record;
     size_t sizes[LENT];
@@ -23,21 +31,19 @@ static const struct {
     const char *name;
     struct sizes sizes;
 } GRADES[] = {{"keeper", {64, 37, 31}}, {"inspector", {32, 16, 20}}};
-static const char *const NAMES[CALLS] = {"begin", "answer", "open"};
 
-static struct lending make_lending(int call, struct sizes sizes)
+static struct lending make_lending(const struct step *step, struct sizes sizes)
 {
-    static const uint8_t stages[CALLS] = {SIGNON_IDLE, SIGNON_COMMITTED, SIGNON_ANSWERED};
-    struct random random = {(uint64_t)call};
-    struct lending l = {call, sizes.rounds, {stages[call], (uint8_t)sizes.n, (uint8_t)sizes.m, (uint8_t)sizes.rounds, {0}}, {0}, {{0}}};
+    struct random random = {(uint64_t)step->call};
+    struct lending l = {step, sizes.rounds, {step->stage, (uint8_t)sizes.n, (uint8_t)sizes.m, (uint8_t)sizes.rounds, {0}}, {0}, {{0}}};
     make_residues(&random, sizes.rounds, l.record.challenges);
     make_keys(&random, sizes, l.bytes[LENT_SYSTEM], l.bytes[LENT_PUBLIC_KEY], l.bytes[LENT_SECRET_KEY]);
     l.sizes[LENT_SYSTEM] = SIGNON_SYSTEM_SIZE(sizes.n, sizes.m);
     l.sizes[LENT_PUBLIC_KEY] = SIGNON_PUBLIC_KEY_SIZE(sizes.n);
     l.sizes[LENT_SECRET_KEY] = SIGNON_SECRET_KEY_SIZE(sizes.n);
-    l.sizes[LENT_MESSAGE] = make_frame(&random, call == ANSWER ? CHALLENGES : BITS, sizes, l.bytes[LENT_MESSAGE]);
+    l.sizes[LENT_MESSAGE] = make_frame(&random, step->call == ANSWER ? CHALLENGES : BITS, sizes, l.bytes[LENT_MESSAGE]);
     l.sizes[LENT_CHOICES] = make_choices(&random, sizes, l.bytes[LENT_CHOICES]);
-    l.sizes[LENT_OUT] = call == BEGIN ? SIGNON_COMMITMENTS_SIZE(sizes.rounds) : SIGNON_OPENINGS_SIZE(sizes.n, sizes.rounds);
+    l.sizes[LENT_OUT] = step->call == BEGIN ? SIGNON_COMMITMENTS_SIZE(sizes.rounds) : SIGNON_OPENINGS_SIZE(sizes.n, sizes.rounds);
     return l;
 }
 
@@ -48,8 +54,14 @@ static struct bytes buffer(struct lending *l, int i)
 
 static struct signon_answer play_by(play *play, struct lending *l)
 {
-    struct card card = {buffer(l, LENT_SYSTEM), buffer(l, LENT_PUBLIC_KEY), buffer(l, LENT_SECRET_KEY), buffer(l, LENT_CHOICES)};
-    struct lent lent = {l->call, l->rounds, &l->record, card, buffer(l, LENT_MESSAGE), buffer(l, LENT_OUT)};
+    struct lent lent = {l->step->call, {l->rounds, 0}, {{NULL, 0}}};
+    lent.buffers[RECORD] = (struct bytes){(uint8_t *)&l->record, sizeof l->record};
+    lent.buffers[SIGNON_SYSTEM] = buffer(l, LENT_SYSTEM);
+    lent.buffers[SIGNON_PUBLIC_KEY] = buffer(l, LENT_PUBLIC_KEY);
+    lent.buffers[SIGNON_SECRET_KEY] = buffer(l, LENT_SECRET_KEY);
+    lent.buffers[SIGNON_CHALLENGES] = lent.buffers[SIGNON_BITS] = buffer(l, LENT_MESSAGE);
+    lent.buffers[SIGNON_CHOICES] = buffer(l, LENT_CHOICES);
+    lent.buffers[SIGNON_OUTPUT] = buffer(l, LENT_OUT);
     return play(&lent);
 }
 
@@ -61,7 +73,7 @@ static struct signon_answer same(const struct lending *lent)
     memcpy(&plain, lent, sizeof plain);
     struct signon_answer a = play_by(play_proved, &ours), b = play_by(play_plain, &plain);
     if (a.number != b.number || a.buffer != b.buffer || a.place != b.place || memcmp(&ours, &plain, sizeof ours) != 0) {
-        printf("%s differs\n", NAMES[lent->call]);
+        printf("%s differs\n", lent->step->name);
         exit(1);
     }
     return a;
@@ -71,7 +83,7 @@ static struct signon_answer same(const struct lending *lent)
 static void compare(struct lending *l)
 {
     if (same(l).number != SIGNON_DONE) {
-        printf("%s is refused\n", NAMES[l->call]);
+        printf("%s is refused\n", l->step->name);
         exit(1);
     }
     for (int i = 0; i < LENT; i++) {
@@ -110,15 +122,15 @@ static void measure(const char *grade, struct lending *l)
     t.lent = *l;
     t.record = l->record;
     memcpy(t.choices, l->bytes[LENT_CHOICES], l->sizes[LENT_CHOICES]);
-    printf("%s-%s %.3f\n", grade, NAMES[l->call], median_ratio(turn_ours, turn_plain, &t, TURNS));
+    printf("%s-%s %.3f\n", grade, l->step->name, median_ratio(turn_ours, turn_plain, &t, TURNS));
 }
 
 int main(void)
 {
     static struct lending l;
     for (size_t g = 0; g < sizeof GRADES / sizeof *GRADES; g++)
-        for (int call = 0; call < CALLS; call++) {
-            l = make_lending(call, GRADES[g].sizes);
+        for (int i = 0; i < STEPS; i++) {
+            l = make_lending(&STEP[i], GRADES[g].sizes);
             compare(&l);
             measure(GRADES[g].name, &l);
         }

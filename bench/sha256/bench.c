@@ -1,5 +1,5 @@
 /* The proved SHA-256 beside plain C, interleaved in one process: the ratio of the medians, C's time over ours, so 1 is C's speed and more is faster. */
-#include "../plain/sha256.h"
+#include "sha256.h"
 
 #include <stdio.h>
 #include <stdlib.h>

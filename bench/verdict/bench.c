@@ -11,12 +11,6 @@ enum { TURNS = 4, LONGEST = 65536 };
 
 static uint8_t input[LONGEST];
 
-/* A sign-on as the verdict program cuts it. */
-struct sign_on {
-    size_t grade;
-    struct bytes frames[FRAMES];
-};
-
 static size_t load(const char *path)
 {
     FILE *file = fopen(path, "rb");
@@ -43,23 +37,24 @@ static struct bytes cut(struct bytes *rest)
     return frame;
 }
 
-/* Bytes left over belong to the last frame. */
-static struct sign_on sign_on_of(size_t size)
+/* The verdict on a sign-on, cut as the verdict program cuts it: bytes left over belong to the last frame. */
+static struct lent verdict_of(size_t size)
 {
+    static const int order[] = {SIGNON_SYSTEM, SIGNON_PUBLIC_KEY, SIGNON_COMMITMENTS, SIGNON_CHALLENGES, SIGNON_FIRST_ANSWERS, SIGNON_BITS};
     size_t skipped = size == 0 ? 0 : 1;
-    struct sign_on s = {size == 0 ? 0 : input[0], {{0}}};
+    struct lent lent = {VERDICT, {size == 0 ? 0 : input[0], 0}, {{NULL, 0}}};
     struct bytes rest = {input + skipped, size - skipped};
-    for (int i = 0; i < FRAMES - 1; i++)
-        s.frames[i] = cut(&rest);
-    s.frames[FRAMES - 1] = rest;
-    return s;
+    for (size_t i = 0; i < sizeof order / sizeof *order; i++)
+        lent.buffers[order[i]] = cut(&rest);
+    lent.buffers[SIGNON_OPENINGS] = rest;
+    return lent;
 }
 
 /* Both verifiers have to give the same answer. */
 static struct signon_answer same(const char *path, size_t size, const char *damage, size_t at)
 {
-    struct sign_on s = sign_on_of(size);
-    struct signon_answer ours = proved_verdict(s.grade, s.frames), plain = plain_verdict(s.grade, s.frames);
+    struct lent lent = verdict_of(size);
+    struct signon_answer ours = play_proved(&lent), plain = play_plain(&lent);
     if (ours.number != plain.number || ours.buffer != plain.buffer || ours.place != plain.place) {
         printf("%s, %s %zu: %d %d %zu, and %d %d %zu by plain C\n", path, damage, at, ours.number, ours.buffer, (size_t)ours.place, plain.number,
                plain.buffer, (size_t)plain.place);
@@ -94,25 +89,16 @@ static void has_to_accept(struct signon_answer answer)
         abort();
 }
 
-static void judge_ours(void *with)
-{
-    const struct sign_on *s = with;
-    has_to_accept(proved_verdict(s->grade, s->frames));
-}
-
-static void judge_plain(void *with)
-{
-    const struct sign_on *s = with;
-    has_to_accept(plain_verdict(s->grade, s->frames));
-}
+static void judge_ours(void *with) { has_to_accept(play_proved(with)); }
+static void judge_plain(void *with) { has_to_accept(play_plain(with)); }
 
 static void measure(const char *path)
 {
     size_t size = load(path);
     compare(path, size);
-    struct sign_on s = sign_on_of(size);
+    struct lent lent = verdict_of(size);
     const char *name = strrchr(path, '/');
-    printf("%s %.3f\n", name == NULL ? path : name + 1, median_ratio(judge_ours, judge_plain, &s, TURNS));
+    printf("%s %.3f\n", name == NULL ? path : name + 1, median_ratio(judge_ours, judge_plain, &lent, TURNS));
 }
 
 int main(int count, char **paths)

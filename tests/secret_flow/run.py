@@ -16,7 +16,7 @@ from xml.etree import ElementTree
 ROOT = Path(__file__).resolve().parents[2]
 BUILT = ROOT / "target" / "secret_flow"
 PROGRAM = BUILT / "flow"
-PLAIN = ROOT / "bench" / "plain"
+PLAIN = ROOT / "tests" / "plain"
 
 SECRETS = ["pi", "R", "sigma", "pi+R+sigma+V"]
 """Each secret alone; then all of them and V: valgrind takes what is read at a secret index for as secret as the bytes that lie there, so that V_pi is

@@ -14,8 +14,13 @@ struct sizes {
     size_t n, m, rounds;
 };
 
+/* A number below the limit, which is below 2^32. */
+size_t below(struct random *random, size_t limit);
+
+size_t make_bytes(struct random *random, size_t count, uint8_t *out);
 size_t make_residues(struct random *random, size_t count, uint8_t *out);
-/* A frame with any well-formed rest. */
+/* Any well-formed rest of a frame, and the frame. */
+size_t make_rest(struct random *random, int kind, struct sizes sizes, uint8_t *out);
 size_t make_frame(struct random *random, int kind, struct sizes sizes, uint8_t *out);
 size_t make_choices(struct random *random, struct sizes sizes, uint8_t *out);
 /* The frames of a system and of a valid key, of the sizes that signon.h says. */

@@ -1,6 +1,8 @@
 #include "frames.h"
 
-static int buffer_of(int kind)
+#include <string.h>
+
+int buffer_of(int kind)
 {
     return kind < COMMITMENTS ? kind : kind + 1;
 }
@@ -27,25 +29,31 @@ static size_t rest_size(int kind, size_t first, size_t second)
     }
 }
 
-static bool fits(size_t number, size_t asked, size_t least, size_t most)
+static bool n_fits(size_t number, size_t asked)
 {
-    return asked == ANY ? least <= number && number <= most : number == asked;
+    return asked == ANY ? is_n(number) : number == asked;
+}
+
+static bool rounds_fit(size_t number, size_t asked)
+{
+    return asked == ANY ? is_rounds(number) : number == asked;
 }
 
 static bool numbers_fit(int kind, size_t first, size_t second, size_t n, size_t rounds)
 {
     bool first_is_n = kind != COMMITMENTS && kind != CHALLENGES && kind != BITS;
-    if (!(first_is_n ? fits(first, n, SIGNON_LEAST_N, SIGNON_MOST_N) : fits(first, rounds, 1, SIGNON_MOST_ROUNDS)))
+    if (!(first_is_n ? n_fits(first, n) : rounds_fit(first, rounds)))
         return false;
     if (kind == SYSTEM)
         return 1 <= second && second < first;
-    return !has_two_numbers(kind) || fits(second, rounds, 1, SIGNON_MOST_ROUNDS);
+    return !has_two_numbers(kind) || rounds_fit(second, rounds);
 }
 
-static bool unused_bit_set(struct bytes frame, size_t rounds)
+/* Of bits at the end of a frame, or by themselves. */
+static bool unused_bit_set(struct bytes packed, size_t rounds)
 {
     size_t unused = (8 - rounds % 8) % 8;
-    return (frame.at[frame.size - 1] & ((1u << unused) - 1)) != 0;
+    return (packed.at[packed.size - 1] & ((1u << unused) - 1)) != 0;
 }
 
 static struct signon_answer check_header(int kind, struct bytes frame)
@@ -90,14 +98,29 @@ struct signon_answer check_permutations(int buffer, const uint8_t *at, size_t fr
     return done(0);
 }
 
-static struct signon_answer check_rest(int kind, struct bytes frame, size_t first)
+struct signon_answer check_choices(struct bytes choices, size_t n, size_t rounds)
+{
+    if (choices.size != SIGNON_CHOICES_SIZE(n, rounds))
+        return refuse(SIGNON_SHAPE, SIGNON_CHOICES, 0);
+    for (size_t at = 0; at < choices.size; at += 2 * n) {
+        struct signon_answer a = check_residues(SIGNON_CHOICES, choices.at, at, at + n);
+        if (!refused(a))
+            a = check_permutations(SIGNON_CHOICES, choices.at, at + n, at + 2 * n, n);
+        if (refused(a))
+            return a;
+    }
+    return done(0);
+}
+
+/* The residues or permutations of a kind, from a place of the buffer to its end. */
+static struct signon_answer check_rest(int kind, struct bytes buffer, size_t from, size_t first)
 {
     switch (kind) {
     case COMMITMENTS:
     case BITS: return done(0);
     case SECRET_KEY:
-    case OPENINGS: return check_permutations(buffer_of(kind), frame.at, start_of(kind), frame.size, first);
-    default: return check_residues(buffer_of(kind), frame.at, start_of(kind), frame.size);
+    case OPENINGS: return check_permutations(buffer_of(kind), buffer.at, from, buffer.size, first);
+    default: return check_residues(buffer_of(kind), buffer.at, from, buffer.size);
     }
 }
 
@@ -113,13 +136,21 @@ struct signon_answer read_frame(int kind, struct bytes frame, size_t n, size_t r
         return bad_shape;
     if (kind == BITS && unused_bit_set(frame, first))
         return bad_shape;
-    a = check_rest(kind, frame, first);
+    a = check_rest(kind, frame, start_of(kind), first);
     return refused(a) ? a : done(first + 256 * second);
 }
 
 struct signon_answer plain_read(int kind, struct bytes frame)
 {
     return read_frame(kind, frame, ANY, ANY);
+}
+
+struct signon_answer plain_check_opening(struct bytes openings, size_t round)
+{
+    struct signon_answer read = plain_read(OPENINGS, openings);
+    if (refused(read))
+        return read;
+    return round < SIGNON_SECOND_NUMBER(read) ? done(start_of(OPENINGS) + round * SIGNON_FIRST_NUMBER(read)) : bad_number();
 }
 
 void put_heading(int kind, size_t first, size_t second, size_t rest, uint8_t *out)
@@ -132,4 +163,25 @@ void put_heading(int kind, size_t first, size_t second, size_t rest, uint8_t *ou
     out[4] = (uint8_t)first;
     if (has_two_numbers(kind))
         out[5] = (uint8_t)second;
+}
+
+struct signon_answer plain_write(int kind, size_t first, size_t second, struct bytes plain, struct bytes out)
+{
+    struct signon_answer bad_shape = refuse(SIGNON_SHAPE, buffer_of(kind), 0);
+    if (!numbers_fit(kind, first, second, ANY, ANY))
+        return bad_number();
+    if (plain.size != rest_size(kind, first, second))
+        return bad_shape;
+    struct signon_answer a = check_rest(kind, plain, 0, first);
+    if (refused(a))
+        return a;
+    if (kind == BITS && unused_bit_set(plain, first))
+        return bad_shape;
+    size_t need = start_of(kind) + plain.size;
+    a = check_room(need, out);
+    if (refused(a))
+        return a;
+    put_heading(kind, first, second, plain.size, out.at);
+    memcpy(out.at + start_of(kind), plain.at, plain.size);
+    return done(need);
 }

@@ -4,6 +4,12 @@
 
 #include <string.h>
 
+struct signon_answer read_public(struct bytes system, struct bytes public_key)
+{
+    struct signon_answer a = read_frame(SYSTEM, system, ANY, ANY);
+    return refused(a) ? a : read_frame(PUBLIC_KEY, public_key, SIGNON_FIRST_NUMBER(a), ANY);
+}
+
 struct public_data public_data_of(struct bytes system, struct bytes public_key)
 {
     return (struct public_data){system.at[4], system.at[5], system.at + start_of(SYSTEM), public_key.at + start_of(PUBLIC_KEY)};
@@ -43,8 +49,7 @@ static void product_permuted(const struct public_data *d, const uint8_t *sigma, 
     product(d, u, out);
 }
 
-/* R + c·V_theta, where the negative of a challenge gives R − c·V_theta. */
-static void add_scaled(const struct public_data *d, const uint8_t *r, uint32_t c, const uint8_t *theta, uint8_t *out)
+void add_scaled(const struct public_data *d, const uint8_t *r, uint32_t c, const uint8_t *theta, uint8_t *out)
 {
     size_t n = d->n;
     uint8_t v[SIGNON_MOST_N];
@@ -85,14 +90,20 @@ void opening(const uint8_t *pi, size_t n, bool bit, struct choice choice, uint8_
         memcpy(out, choice.sigma, n);
 }
 
-bool passes(const struct public_data *d, uint8_t c, bool bit, const uint8_t commitment[DIGEST], struct shown shown)
+void commitment_shown(const struct public_data *d, uint8_t c, bool bit, struct shown shown, uint8_t digest[DIGEST])
 {
-    uint8_t message[2 * SIGNON_MOST_N], digest[DIGEST];
+    uint8_t message[2 * SIGNON_MOST_N];
     memcpy(message, shown.opened, d->n);
     if (bit)
         add_scaled(d, shown.w, SIGNON_MODULUS - c, shown.opened, message + d->n);
     else
         product_permuted(d, shown.opened, shown.w, message + d->n);
     plain_in_pieces(message, d->n + (bit ? d->n : d->m), 0, digest);
+}
+
+bool passes(const struct public_data *d, uint8_t c, bool bit, const uint8_t commitment[DIGEST], struct shown shown)
+{
+    uint8_t digest[DIGEST];
+    commitment_shown(d, c, bit, shown, digest);
     return memcmp(digest, commitment, DIGEST) == 0;
 }

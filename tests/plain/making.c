@@ -1,14 +1,22 @@
 #include "making.h"
 
-#include "round.h"
+#include <stdlib.h>
+#include <string.h>
 
 /* splitmix64 */
-static size_t below(struct random *random, size_t limit)
+size_t below(struct random *random, size_t limit)
 {
     uint64_t z = random->state += 0x9e3779b97f4a7c15;
     z = (z ^ z >> 30) * 0xbf58476d1ce4e5b9;
     z = (z ^ z >> 27) * 0x94d049bb133111eb;
-    return (z ^ z >> 31) % limit;
+    return (size_t)(((z ^ z >> 31) >> 32) * limit >> 32);
+}
+
+size_t make_bytes(struct random *random, size_t count, uint8_t *out)
+{
+    for (size_t i = 0; i < count; i++)
+        out[i] = (uint8_t)below(random, 256);
+    return count;
 }
 
 size_t make_residues(struct random *random, size_t count, uint8_t *out)
@@ -37,21 +45,19 @@ static size_t make_permutations(struct random *random, size_t n, size_t count, u
 
 static size_t make_bits(struct random *random, size_t rounds, uint8_t *out)
 {
-    size_t packed = (rounds + 7) / 8;
-    for (size_t i = 0; i < packed; i++)
-        out[i] = (uint8_t)below(random, 256);
+    size_t packed = make_bytes(random, (rounds + 7) / 8, out);
     out[packed - 1] &= (uint8_t)(0xff << (8 * packed - rounds));
     return packed;
 }
 
-static size_t make_rest(struct random *random, int kind, struct sizes sizes, uint8_t *out)
+size_t make_rest(struct random *random, int kind, struct sizes sizes, uint8_t *out)
 {
     size_t n = sizes.n, m = sizes.m, rounds = sizes.rounds;
     switch (kind) {
     case SYSTEM: return make_residues(random, m * (n - m), out);
     case PUBLIC_KEY: return make_residues(random, n, out);
     case SECRET_KEY: return make_permutation(random, n, out);
-    case COMMITMENTS: return make_residues(random, 2 * DIGEST * rounds, out);
+    case COMMITMENTS: return make_bytes(random, 2 * DIGEST * rounds, out);
     case CHALLENGES: return make_residues(random, rounds, out);
     case FIRST_ANSWERS: return make_residues(random, n * rounds, out);
     case BITS: return make_bits(random, rounds, out);
@@ -76,19 +82,16 @@ size_t make_choices(struct random *random, struct sizes sizes, uint8_t *out)
     return SIGNON_CHOICES_SIZE(sizes.n, sizes.rounds);
 }
 
-/* X is completed so that A X is zero, and V[pi[j]] = X[j]. */
+/* Lent so many bytes, the drawing of a key does not run out: it takes at most 126, and skips fewer than one in four. */
+enum { ENOUGH_FOR_A_KEY = 512 };
+
 void make_keys(struct random *random, struct sizes sizes, uint8_t *system, uint8_t *public_key, uint8_t *secret_key)
 {
-    make_frame(random, SYSTEM, sizes, system);
-    make_frame(random, PUBLIC_KEY, sizes, public_key);
-    make_frame(random, SECRET_KEY, sizes, secret_key);
-    struct public_data d = {sizes.n, sizes.m, system + start_of(SYSTEM), public_key + start_of(PUBLIC_KEY)};
-    const uint8_t *pi = secret_key + start_of(SECRET_KEY);
-    uint8_t x[SIGNON_MOST_N] = {0}, rows[SIGNON_MOST_N];
-    make_residues(random, d.n - d.m, x);
-    product(&d, x, rows);
-    for (size_t i = 0; i < d.m; i++)
-        x[d.n - d.m + i] = (uint8_t)((SIGNON_MODULUS - rows[i]) % SIGNON_MODULUS);
-    for (size_t j = 0; j < d.n; j++)
-        public_key[start_of(PUBLIC_KEY) + pi[j]] = x[j];
+    uint8_t lent[ENOUGH_FOR_A_KEY], both[SIGNON_KEY_SIZE(SIGNON_MOST_N)];
+    size_t system_size = make_frame(random, SYSTEM, sizes, system), size = SIGNON_PUBLIC_KEY_SIZE(sizes.n);
+    make_bytes(random, sizeof lent, lent);
+    if (refused(plain_make_key((struct bytes){system, system_size}, (struct bytes){lent, sizeof lent}, (struct bytes){both, sizeof both})))
+        abort();
+    memcpy(public_key, both, size);
+    memcpy(secret_key, both + size, SIGNON_SECRET_KEY_SIZE(sizes.n));
 }

@@ -1,4 +1,4 @@
-/* The eight kinds of frames: their numbers, sizes and checks. */
+/* The eight kinds of frames: their numbers, sizes and checks; and the checks of what has no frame. */
 #ifndef PLAIN_FRAMES_H
 #define PLAIN_FRAMES_H
 
@@ -11,6 +11,14 @@ static inline struct signon_answer done(size_t value) { return (struct signon_an
 static inline struct signon_answer refuse(int number, int buffer, size_t place) { return (struct signon_answer){(uint8_t)number, (uint8_t)buffer, place}; }
 static inline bool refused(struct signon_answer answer) { return answer.number != SIGNON_DONE; }
 
+static inline bool is_n(size_t number) { return SIGNON_LEAST_N <= number && number <= SIGNON_MOST_N; }
+static inline bool is_rounds(size_t number) { return 1 <= number && number <= SIGNON_MOST_ROUNDS; }
+static inline struct signon_answer bad_number(void) { return refuse(SIGNON_SHAPE, SIGNON_NO_BUFFER, 0); }
+static inline struct signon_answer check_room(size_t need, struct bytes out) { return out.size < need ? refuse(SIGNON_ROOM, SIGNON_OUTPUT, need) : done(0); }
+
+/* The buffer of a kind's frame, and of what a writer makes it from. */
+int buffer_of(int kind);
+
 /* Where the rest of a frame starts, behind its numbers. */
 size_t start_of(int kind);
 
@@ -22,5 +30,7 @@ void put_heading(int kind, size_t first, size_t second, size_t rest, uint8_t *ou
 
 struct signon_answer check_residues(int buffer, const uint8_t *at, size_t from, size_t to);
 struct signon_answer check_permutations(int buffer, const uint8_t *at, size_t from, size_t to, size_t n);
+/* For each round n residues and a permutation of n. */
+struct signon_answer check_choices(struct bytes choices, size_t n, size_t rounds);
 
 #endif

@@ -1,4 +1,4 @@
-/* SHA-256 of a message in pieces of `size` bytes, in one where `size` is 0: plain portable C, to measure the proved code beside. */
+/* SHA-256 of a message in pieces of `size` bytes, in one where `size` is 0. */
 #ifndef PLAIN_SHA256_H
 #define PLAIN_SHA256_H
 

@@ -1,4 +1,4 @@
-/* The card's three calls. */
+/* The key check, the card's three calls, and giving up. */
 #include "round.h"
 
 #include <string.h>
@@ -13,27 +13,8 @@ static struct choice choice_of(const struct card *card, size_t n, size_t k)
 
 static struct signon_answer check_keys(const struct card *card)
 {
-    struct signon_answer a = read_frame(SYSTEM, card->system, ANY, ANY);
-    if (refused(a))
-        return a;
-    size_t n = card->system.at[4];
-    a = read_frame(PUBLIC_KEY, card->public_key, n, ANY);
-    return refused(a) ? a : read_frame(SECRET_KEY, card->secret_key, n, ANY);
-}
-
-static struct signon_answer check_choices(const struct card *card, size_t n, size_t rounds)
-{
-    struct bytes choices = card->choices;
-    if (choices.size != SIGNON_CHOICES_SIZE(n, rounds))
-        return refuse(SIGNON_SHAPE, SIGNON_CHOICES, 0);
-    for (size_t at = 0; at < choices.size; at += 2 * n) {
-        struct signon_answer a = check_residues(SIGNON_CHOICES, choices.at, at, at + n);
-        if (!refused(a))
-            a = check_permutations(SIGNON_CHOICES, choices.at, at + n, at + 2 * n, n);
-        if (refused(a))
-            return a;
-    }
-    return done(0);
+    struct signon_answer a = read_public(card->system, card->public_key);
+    return refused(a) ? a : read_frame(SECRET_KEY, card->secret_key, card->system.at[4], ANY);
 }
 
 static struct signon_answer check_valid(const struct public_data *d, const uint8_t *pi)
@@ -47,19 +28,17 @@ static struct signon_answer check_valid(const struct public_data *d, const uint8
     return done(0);
 }
 
-static struct signon_answer check_end(const struct card *card, const struct public_data *d, const uint8_t *pi, size_t rounds, size_t need, size_t room)
-{
-    struct signon_answer a = check_choices(card, d->n, rounds);
-    if (!refused(a))
-        a = check_valid(d, pi);
-    if (refused(a))
-        return a;
-    return room < need ? refuse(SIGNON_ROOM, SIGNON_OUTPUT, need) : done(0);
-}
-
 static const uint8_t *secret_of(const struct card *card)
 {
     return card->secret_key.at + start_of(SECRET_KEY);
+}
+
+static struct signon_answer check_end(const struct card *card, const struct public_data *d, size_t rounds, size_t need, struct bytes out)
+{
+    struct signon_answer a = check_choices(card->choices, d->n, rounds);
+    if (!refused(a))
+        a = check_valid(d, secret_of(card));
+    return refused(a) ? a : check_room(need, out);
 }
 
 static bool kept_fit(const struct signon_record *record)
@@ -69,13 +48,13 @@ static bool kept_fit(const struct signon_record *record)
 
 static bool record_fits(const struct signon_record *record, const struct public_data *d)
 {
-    if (record->n != d->n || record->m != d->m || record->rounds < 1 || record->rounds > SIGNON_MOST_ROUNDS)
+    if (record->n != d->n || record->m != d->m || !is_rounds(record->rounds))
         return false;
     return record->stage != SIGNON_ANSWERED || kept_fit(record);
 }
 
 /* What answer and open ask, SELF aside; first answers and openings need the same room. */
-static struct signon_answer check_step(const struct signon_record *record, int stage, const struct card *card, int kind, struct bytes message, size_t room)
+static struct signon_answer check_step(const struct signon_record *record, int stage, const struct card *card, int kind, struct bytes message, struct bytes out)
 {
     if (record->stage != stage)
         return refuse(SIGNON_STAGE, SIGNON_NO_BUFFER, 0);
@@ -86,7 +65,19 @@ static struct signon_answer check_step(const struct signon_record *record, int s
     if (!record_fits(record, &d))
         return refuse(SIGNON_STAGE, SIGNON_NO_BUFFER, 0);
     a = read_frame(kind, message, d.n, record->rounds);
-    return refused(a) ? a : check_end(card, &d, secret_of(card), record->rounds, SIGNON_OPENINGS_SIZE(d.n, record->rounds), room);
+    return refused(a) ? a : check_end(card, &d, record->rounds, SIGNON_OPENINGS_SIZE(d.n, record->rounds), out);
+}
+
+/* The key check */
+
+struct signon_answer plain_check_key(struct bytes system, struct bytes public_key, struct bytes secret_key)
+{
+    struct card card = {system, public_key, secret_key, {NULL, 0}};
+    struct signon_answer a = check_keys(&card);
+    if (refused(a))
+        return a;
+    struct public_data d = public_data_of(system, public_key);
+    return check_valid(&d, secret_of(&card));
 }
 
 /* Begin */
@@ -95,16 +86,16 @@ struct signon_answer plain_begin(struct signon_record *record, size_t rounds, co
 {
     if (record->stage != SIGNON_IDLE && record->stage != SIGNON_CLOSED)
         return refuse(SIGNON_STAGE, SIGNON_NO_BUFFER, 0);
-    if (rounds < 1 || rounds > SIGNON_MOST_ROUNDS)
-        return refuse(SIGNON_SHAPE, SIGNON_NO_BUFFER, 0);
+    if (!is_rounds(rounds))
+        return bad_number();
     struct signon_answer a = check_keys(card);
     if (refused(a))
         return a;
     struct public_data d = public_data_of(card->system, card->public_key);
-    const uint8_t *pi = secret_of(card);
-    a = check_end(card, &d, pi, rounds, SIGNON_COMMITMENTS_SIZE(rounds), out.size);
+    a = check_end(card, &d, rounds, SIGNON_COMMITMENTS_SIZE(rounds), out);
     if (refused(a))
         return a;
+    const uint8_t *pi = secret_of(card);
     put_heading(COMMITMENTS, rounds, 0, 2 * DIGEST * rounds, out.at);
     uint8_t *next = out.at + start_of(COMMITMENTS);
     for (size_t k = 0; k < rounds; k++, next += 2 * DIGEST) {
@@ -119,7 +110,7 @@ struct signon_answer plain_begin(struct signon_record *record, size_t rounds, co
 
 struct signon_answer plain_answer(struct signon_record *record, const struct card *card, struct bytes challenges, struct bytes out)
 {
-    struct signon_answer a = check_step(record, SIGNON_COMMITTED, card, CHALLENGES, challenges, out.size);
+    struct signon_answer a = check_step(record, SIGNON_COMMITTED, card, CHALLENGES, challenges, out);
     if (refused(a))
         return a;
     struct public_data d = public_data_of(card->system, card->public_key);
@@ -150,7 +141,7 @@ static bool own_passes(const struct public_data *d, const uint8_t *pi, uint8_t c
 
 struct signon_answer plain_open(struct signon_record *record, const struct card *card, struct bytes bits, struct bytes out)
 {
-    struct signon_answer a = check_step(record, SIGNON_ANSWERED, card, BITS, bits, out.size);
+    struct signon_answer a = check_step(record, SIGNON_ANSWERED, card, BITS, bits, out);
     if (refused(a))
         return a;
     struct public_data d = public_data_of(card->system, card->public_key);
@@ -165,4 +156,13 @@ struct signon_answer plain_open(struct signon_record *record, const struct card 
     memset(card->choices.at, 0, card->choices.size);
     record->stage = SIGNON_CLOSED;
     return done(SIGNON_OPENINGS_SIZE(d.n, rounds));
+}
+
+/* Give up */
+
+struct signon_answer plain_give_up(struct signon_record *record, struct bytes choices)
+{
+    memset(record, 0, sizeof *record);
+    memset(choices.at, 0, choices.size);
+    return done(0);
 }
