@@ -13,7 +13,7 @@ accepted 31
 
 
 def check():
-    printed = run([link(C_BINDING / "example.c", "example")])
+    printed = run([link("example", C_BINDING / "example.c")])
     if printed != EXPECTED:
         raise Failed(f"the example prints\n{printed}")
     return "a sign-on of 31 rounds over random bytes, accepted"

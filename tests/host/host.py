@@ -48,9 +48,9 @@ def archive():
         return built()
 
 
-def link(source, name):
-    """Compiles a C program over the archive, and gives back its path."""
+def link(name, *sources, headers=()):
+    """Compiles a C program over the archive, and gives back its path. `headers` are folders beside that of signon.h."""
     BUILT.mkdir(parents=True, exist_ok=True)
     program = BUILT / name
-    run([*C11, "-O2", *STRICT, f"-I{C_BINDING}", "-o", program, source, archive()])
+    run([*C11, "-O2", *STRICT, *(f"-I{folder}" for folder in (C_BINDING, *headers)), "-o", program, *sources, archive()])
     return program

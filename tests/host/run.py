@@ -3,7 +3,7 @@
 
     python3 tests/host/run.py [NAME ..]
 
-NAME is header, verdict, desk, rust, example or sign_ons; all of them where none is named. Needs rt, gcc, g++, nm and cargo, and the programs in
+NAME is header, verdict, desk, rust, example, sign_ons or generated; all of them where none is named. Needs rt, gcc, g++, nm and cargo, and the programs in
 target/bin. The archive is built first (bindings/archive). Exit status 1 where a test fails.
 """
 import os
@@ -12,6 +12,7 @@ from concurrent.futures import ThreadPoolExecutor
 
 import desk
 import example
+import generated
 import header
 import rust
 import sign_ons
@@ -25,6 +26,7 @@ TESTS = {
     "rust": rust.check,
     "example": example.check,
     "sign_ons": sign_ons.check,
+    "generated": generated.check,
 }
 """Those over programs stand second and third: they go on while the first has the archive built."""
 

@@ -25,4 +25,4 @@ def parts_of(played):
 
 def check():
     sent = b"".join(len(part).to_bytes(4, "big") + part for played in sign_ons() for part in parts_of(played))
-    return run([link(HERE / "sign_ons.c", "sign_ons")], sent=sent).strip()
+    return run([link("sign_ons", HERE / "sign_ons.c")], sent=sent).strip()
