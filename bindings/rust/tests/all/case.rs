@@ -1,4 +1,4 @@
-//! A call with what it is given, and what comes of it: the same for the archive, the model and the cases of crates/replay.
+//! A call with what it is given, and what comes of it: the same for the archive and the cases of crates/replay.
 
 #[derive(Clone, Copy, Debug, PartialEq, Eq, PartialOrd, Ord)]
 pub enum Call {
@@ -57,11 +57,6 @@ impl Call {
             Call::GiveUp => &[0, 1],
             Call::Read(_) | Call::Opening | Call::Hash | Call::CheckKey | Call::Verdict => &[],
         }
-    }
-
-    /// Whether the first buffer is the record, which always has its 68 bytes.
-    pub fn has_record(self) -> bool {
-        matches!(self, Call::Begin | Call::Answer | Call::Open | Call::GiveUp)
     }
 }
 

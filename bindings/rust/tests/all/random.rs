@@ -26,20 +26,7 @@ impl Random {
         ((u128::from(self.next()) * limit as u128) >> 64) as usize
     }
 
-    pub fn byte(&mut self) -> u8 {
-        self.below(256) as u8
-    }
-
     pub fn bytes(&mut self, size: usize) -> Vec<u8> {
-        (0..size).map(|_| self.byte()).collect()
-    }
-
-    /// True once in so many times.
-    pub fn once_in(&mut self, times: usize) -> bool {
-        self.below(times) == 0
-    }
-
-    pub fn pick<T: Copy>(&mut self, list: &[T]) -> T {
-        list[self.below(list.len())]
+        (0..size).map(|_| self.below(256) as u8).collect()
     }
 }

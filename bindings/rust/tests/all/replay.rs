@@ -1,11 +1,10 @@
-//! The cases of tests/model, as crates/replay is given them, through the archive and through the model of these tests.
+//! The cases of tests/model, as crates/replay is given them, through the archive.
 use std::collections::{BTreeMap, BTreeSet};
 use std::fs;
 
 use crate::archive::Archive;
 use crate::case::{body_start, hex, Call, Case, Outcome};
 use crate::guard::Edge;
-use crate::model;
 
 /// Up to so many bytes a line shows a buffer whole, and its Adler-32 above.
 const SHOWN_WHOLE: usize = 40;
@@ -87,31 +86,24 @@ fn adler32(bytes: &[u8]) -> u32 {
     b << 16 | a
 }
 
-/// Holds what comes of every case to its line; buffers that are not for writing have to stay as they were.
-fn hold(mut play: impl FnMut(&Case) -> Outcome) {
-    let (cases, lines) = (cases(), lines());
+/// What comes of a case has to be its line; buffers that are not for writing have to stay as they were.
+fn hold(index: usize, case: &Case, line: &str, outcome: &Outcome) {
+    assert_eq!(line_of(case.call, outcome), line, "case {index}: {case:?}");
+    for (place, buffer) in case.buffers.iter().enumerate() {
+        assert!(case.call.written().contains(&place) || outcome.buffers[place] == *buffer, "case {index}: buffer {place} changed");
+    }
+}
+
+#[test]
+fn every_case_tells_what_replay_tells() {
+    let (mut archive, cases, lines) = (Archive::new(), cases(), lines());
     assert_eq!(cases.len(), lines.len());
     assert!(Call::all().iter().all(|call| cases.iter().any(|case| case.call == *call)), "a call has no case");
-    for (index, (case, line)) in cases.iter().zip(lines).enumerate() {
-        let outcome = play(case);
-        assert_eq!(line_of(case.call, &outcome), line, "case {index}: {case:?}");
-        for (place, buffer) in case.buffers.iter().enumerate() {
-            assert!(case.call.written().contains(&place) || outcome.buffers[place] == *buffer, "case {index}: buffer {place} changed");
+    for (index, (case, line)) in cases.iter().zip(&lines).enumerate() {
+        for edge in [Edge::Front, Edge::Back] {
+            hold(index, case, line, &archive.play(case, edge));
         }
     }
-}
-
-#[test]
-fn the_archive_tells_what_replay_tells() {
-    let mut archive = Archive::new();
-    for edge in [Edge::Front, Edge::Back] {
-        hold(|case| archive.play(case, edge));
-    }
-}
-
-#[test]
-fn the_model_tells_what_replay_tells() {
-    hold(model::play);
 }
 
 /// Begin, answer and open with one record, which goes on as each call leaves it: wherever a case starts from the record, the choices and the
