@@ -4,7 +4,7 @@ use mathlib.Core.Bool.{true, false}
 use mathlib.Core.List.{List, [], _∷_, zipWith}
 use Prim.Native.Nat.{ℕ}
 use lib.Dec.{eqb}
-use Rattle.algebra.specs.Lists.{tab, sumBelow, allBelow, firstFrom, count, stretch, over}
+use Rattle.algebra.specs.Lists.{tab, allBelow, firstFrom, count, stretch, over}
 use Rattle.algebra.specs.Residues.{modulus, negative, addScaled, subScaled}
 use Rattle.algebra.specs.Permutations.{isPerm, permute, compose, identity, placeOf, inverse, unpermute}
 

@@ -1,7 +1,6 @@
 // The files of a command, lent as one stretch of bytes: a slot for each buffer of document 01, in which the file's size comes first, in two bytes.
 // Slot 0, of no buffer, has the record, or the one file of a command that takes any.
 use algebra::wide;
-ghost use mathlib.Core.Path.{_≡_};
 ghost use Prim.Native.Nat.{_≤_};
 ghost use lib.ListN.{length};
 ghost use Rattle.desk_files.specs.Slots.{lastSlot};

@@ -21,7 +21,7 @@ use refusals::number::ROOM;
 use writers::put_frame;
 ghost use mathlib.Core.Path.{_≡_};
 ghost use mathlib.Core.List.{_++_};
-ghost use Prim.Native.Nat.{_≤_, _<_};
+ghost use Prim.Native.Nat.{_≤_};
 ghost use lib.ListN.{length, take, drop};
 ghost use Rattle.refusals.specs.Told.{fine};
 ghost use Rattle.algebra.specs.Lists.{over};

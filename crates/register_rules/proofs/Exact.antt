@@ -2,7 +2,7 @@
 -- N suffices for the grade, and every round passes. FIRST or SECOND at r: frames and grade as before, the rounds below r pass and round r,
 -- which is of that bit, does not.
 use mathlib.Core.Path.{_≡_, refl, sym, ap, _∙_, subst}
-use mathlib.Core.Bool.{Bool, true, false, cond, not, false≢true}
+use mathlib.Core.Bool.{Bool, true, false, cond, false≢true}
 use mathlib.Core.List.{List, [], _∷_}
 use mathlib.Core.Logic.{_⊎_, inl, inr}
 use Prim.Native.Nat.{ℕ, _<_}

@@ -8,11 +8,10 @@ use native.Mathlib.Omega.{arith}
 use borrow.Author.Tests.{eq-eqb, ne-eqb}
 use lib.ListN.{length, getD, take, drop, length-take, drop-of-length-le}
 use lib.Seq.{drop-cons, length-take-le}
-use Rattle.algebra.specs.Lists.{over}
+use Rattle.algebra.specs.Lists.{over, sameBytes}
 use Rattle.algebra.specs.Permutations.{IsPerm, permute, compose}
 use Rattle.algebra.proofs.Lists.{front}
 use Rattle.algebra.proofs.Permutations.{length-permute, compose-perm}
-use Rattle.algebra.specs.Lists.{sameBytes}
 
 pub take-within : (n k : ℕ) (l : List ℕ) → n < k → length (take n l) < k
 take-within n k l h = simp length-take (omega arith)

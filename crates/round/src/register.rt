@@ -7,7 +7,6 @@ use algebra::residue::sub_scaled_into;
 use matrices::product_into;
 use sha256::DIGEST;
 ghost use mathlib.Core.Path.{_≡_};
-ghost use mathlib.Core.Bool.{true, false};
 ghost use mathlib.Core.List.{_++_};
 ghost use Prim.Native.Nat.{_≤_, _<_};
 ghost use lib.ListN.{length};

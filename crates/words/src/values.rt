@@ -2,7 +2,6 @@
 use algebra::wide;
 use hosting::text::say;
 use hosting::text::say_hex;
-use hosting::text::say_number;
 use hosting::text::say_with;
 use kinds::PAIR;
 use packed_bits::bit_at;

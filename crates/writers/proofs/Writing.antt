@@ -20,7 +20,7 @@ use Rattle.algebra.specs.Lists.{over, overAt}
 use Rattle.algebra.proofs.Lists.{over-behind}
 use Rattle.kinds.specs.declared.Kind.{Kind}
 use Rattle.kinds.specs.declared.Kind.the-variants.{System, Public, Secret, Commitments, Challenges, Answers, Bits, Openings}
-use Rattle.kinds.specs.Kinds.{alone, table, fits, frameSize}
+use Rattle.kinds.specs.Kinds.{alone, table, fits}
 use Rattle.bodies.specs.Bodies.{spareClear, content}
 use Rattle.writers.specs.Writing.{heading, frame, plainCheck}
 use Rattle.frames.proofs.Facts.{test-holds, rest-done}
@@ -66,7 +66,7 @@ pub framed : (k : Kind) (a b : ℕ) (rest out : List ℕ) (start : ℕ) → star
 unfolding frame
 framed k a b rest out start p = over-behind (heading k _ a b) rest out start (heading-length k _ a b ∙ sym p)
 
--- ---- the plain buffer; b' is the kind's buffer
+-- ---- the plain buffer; b′ is the kind's buffer
 
 module _ (k : Kind) (a b : ℕ) (plain : List ℕ) where
   pub bad-numbers : fits k alone a b ≡ false → refused SHAPE NONE 0 ≡ plainCheck k a b plain

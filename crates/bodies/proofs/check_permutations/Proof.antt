@@ -8,7 +8,6 @@ use borrow.Author.Needs.{needs}
 use borrow.Author.Tests.{not-true, not-false}
 use Rattle.refusals.specs.Told.{fine, firstBelow}
 use Rattle.refusals.proofs.Chain.{below-none, below-more, below-stops}
-use Rattle.algebra.specs.Lists.{count}
 use Rattle.algebra.proofs.Lists.{stretch-fits}
 use Rattle.bodies.specs.Bodies.{permutationAt, permutations}
 use Rattle.bodies.proofs.Loops.{permutation-fine, permutation-refused}

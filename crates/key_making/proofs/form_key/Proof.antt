@@ -14,7 +14,6 @@ use Rattle.matrices.specs.Solving.{completed}
 use Rattle.random.proofs.Drawings.{Permutes, drawn-perm}
 use Rattle.algebra.proofs.Lists.{front}
 use Rattle.matrices.proofs.Solving.{length-completed}
-use Rattle.kinds.specs.Kinds.{fits}
 use Rattle.key_making.specs.Key.{publicKey, drawPair}
 use Rattle.random.specs.Sequences.{listOf, andThen, drawResidues}
 use Rattle.random.proofs.Sequences.{drew-of, then-drew, enough-first, enough-next, Always, some-below}

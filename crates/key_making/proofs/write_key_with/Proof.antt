@@ -8,7 +8,6 @@ use lib.ListN.{take, drop}
 use lib.Seq.{length-take-le}
 use Rattle.algebra.specs.Lists.{over}
 use Rattle.algebra.proofs.Lists.{front}
-use Rattle.kinds.specs.Kinds.{fits}
 use Rattle.writers.specs.Writing.{frame}
 use Rattle.key_making.specs.Key.{keyFrames, drawPair, drawKey}
 use Rattle.random.specs.Sequences.{listOf}

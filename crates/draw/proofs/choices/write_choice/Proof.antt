@@ -6,7 +6,6 @@ use native.Mathlib.Omega.{arith}
 use borrow.Author.Needs.{needs}
 use lib.ListN.{length}
 use borrow.Rule.Slice.PartMut.{midOf}
-use Rattle.refusals.specs.Told.{first}
 use Rattle.random.specs.Drawings.{Drawing, drawPermutation, usedBy, drawnOver}
 use Rattle.algebra.specs.Residues.{modulus, Residues}
 use Rattle.random.proofs.Drawings.{Permutes, drawn-perm}

@@ -4,7 +4,7 @@ use mathlib.Core.List.{[]}
 use native.Mathlib.Omega.{arith}
 use borrow.Author.Needs.{needs}
 use Rattle.refusals.proofs.Chain.{goes-on, stops}
-use Rattle.refusals.specs.Told.{first, means}
+use Rattle.refusals.specs.Told.{means}
 use Rattle.register_rules.proofs.Facts.{BasisFits, numbers-most, basis-told}
 use Rattle.register_rules.specs.Verdict.{framesCheck}
 use Rattle.register.proofs.check.check_frames.Statement.{statement}
