@@ -1,6 +1,8 @@
--- Demand 2. "A card with a valid key, lent the same system, keys and choices at its three calls, its record as it left it, and refused at none, is
--- accepted for all challenges and bits." (The exact verdict: crates/register/proofs/Exact.antt. Frames and their values: crates/frames/proofs/
--- Spelling.antt, crates/card/proofs/ReadBack.antt.)
+-- Demand 2. "Card and register do what the scheme says. The register accepts well-formed messages with enough rounds exactly when every round opens its
+-- commitment, and nothing else. A card with a valid key, lent the same system, keys and choices at its three calls, its record as it left it, and
+-- refused at none, is accepted for all challenges and bits. Each frame written reads back as its values; each frame read has no other spelling."
+-- Here: the card. The exact verdict: crates/register_rules/proofs/Exact.antt. Frames and their values: crates/writers/proofs/Spelling.antt,
+-- crates/card_steps/proofs/ReadBack.antt.
 use mathlib.Core.Path.{_≡_, refl, sym, ap, _∙_, subst}
 use mathlib.Core.Bool.{true}
 use mathlib.Core.List.{List, [], _∷_}

@@ -1,6 +1,6 @@
 -- Demand 3. "One round shows nothing of the key in what it opens: for a valid key and a challenge and bit fixed beforehand, the card's choices pair off
 -- one to one with the stand-in's, and each pair gives the same opened commitment, first answer and opened permutation, byte by byte." (The maps
--- `there` and `back` and the record `Pairing`: crates/round/specs/Pairing.antt.)
+-- `there` and `back` and the record `Pairing`: crates/scheme/specs/Pairing.antt.)
 use mathlib.Core.Path.{_≡_, refl, sym, ap, _∙_}
 use mathlib.Core.Bool.{Bool, true, false, cond}
 use mathlib.Core.List.{List, [], _∷_, _++_}

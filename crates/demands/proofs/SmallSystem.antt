@@ -1,5 +1,5 @@
--- The small system of document 01, "by hand": one table of its twelve cases, what the definitions of the contracts compute and what the document
--- says, and one claim: all rows agree. Vectors stand as the values of a success, refusals as number, buffer and place.
+-- Document 01, "The small system, by hand": one table of its twelve cases, what the definitions of the contracts compute and what the document says,
+-- and one claim: all rows agree. Vectors stand as the values of a success, refusals as number, buffer and place.
 use mathlib.Core.Path.{_≡_, refl}
 use mathlib.Core.Bool.{cond}
 use mathlib.Core.List.{List, [], _∷_, zipWith}

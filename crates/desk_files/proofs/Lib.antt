@@ -1,2 +1,2 @@
--- Laws of the numbers and sizes of the desk's arguments and files.
+-- Laws of the numbers that arguments are.
 pub mod Numbers

@@ -5,7 +5,7 @@ use Prim.Native.Nat.{ℕ}
 abbrev pub slotSize : ℕ
 slotSize = 16386
 
--- a slot for each of 12 buffers
+-- 12 slots: one for each buffer, and slot 0
 abbrev pub lentSize : ℕ
 lentSize = 196632
 

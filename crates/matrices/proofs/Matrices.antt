@@ -1,4 +1,4 @@
--- Laws of A = [A' | I]: A_σ X_σ = A X, linearity, and what the key check finds.
+-- Laws of A = [A' | I]: A_σ X_σ = A X, linearity, and what the fault of a key says.
 use mathlib.Core.Path.{_≡_, refl, sym, ap, _∙_, subst}
 use mathlib.Core.Bool.{not, false≢true}
 use mathlib.Core.List.{List}

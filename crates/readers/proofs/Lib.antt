@@ -1,4 +1,4 @@
--- What frames and choices say where nothing is refused, what passes, the opening of a named round, and examples.
+-- The laws of choices, of the opening of a named round and of what readers tell, and examples.
 pub mod OpeningLaws
 pub mod Passing
 pub mod Chosen

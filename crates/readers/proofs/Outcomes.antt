@@ -1,4 +1,4 @@
--- For each call: no second outcome fits what it promises, and a refused call changes nothing.
+-- For each call: no second outcome fits what it promises. Nothing is lent to it for writing. And the numbers that it refuses by.
 use mathlib.Core.Path.{_≡_, refl, sym, ap, _∙_}
 use mathlib.Core.List.{List, [], _∷_}
 use Prim.Native.Nat.{ℕ, _+_, _*_, _≤_}

@@ -73,7 +73,7 @@ vector-length n x k h = simp (length-take, length-drop) (omega arith)
 pub part-length : (from size : ℕ) (s : List ℕ) → from + size ≤ length s → length (take (from + size - from) (drop from s)) ≡ size
 part-length from size s h = simp (length-take, length-drop) (omega arith)
 
--- half-start and its end lie inside the stretch of 64
+-- the commitment of a bit lies inside the stretch of 64
 pub half-ends : (bit : Bool) (k : ℕ) → halfStart bit k + 32 ≤ k * 64 + 64
 unfolding halfStart
 half-ends false k = omega arith

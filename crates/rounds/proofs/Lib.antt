@@ -1,4 +1,4 @@
--- The laws of N rounds.
+-- The laws of N rounds, and examples.
 pub mod Runs
 pub mod Cuts
 pub mod Examples

@@ -7,7 +7,7 @@ use lib.ListN.{length, length-append, length-replicate}
 use Rattle.sha256.specs.Standard.{bytes, zeros, padding, pad, blockCount}
 
 -- ---- §5.1.1 in bits: a message of l = 8 n bits, the bit 1, then k zeros, "where k is the smallest, non-negative solution to the equation
--- l + 1 + k = 448 mod 512". Of these zeros seven end the byte of the bit 1, and eight are in each of the others
+-- l + 1 + k ≡ 448 mod 512". Of these zeros seven end the byte of the bit 1, and eight are in each of the others
 
 abbrev pub zeroBits : ℕ → ℕ
 zeroBits n = 7 + 8 * zeros n

@@ -1,6 +1,6 @@
 -- SHA-256 of a message that is a list of bytes, by the names and in the order of FIPS 180-4, whose sections § cites.
 -- A byte is a number below 2 ^ 8, a word a number below 2 ^ 32. The standard counts a message in bits, eight to a byte, and takes fewer than 2 ^ 64 of them.
--- §3.2, §4, §5.3 and what §6.2.2 does with one block are in crate compression: its specs Operations, Constants and Block.
+-- §3.2 and §4.1.2 are in crate `word32`: its spec Operations; §4.2.2, §5.3.3 and what §6.2.2 does with one block in crate `compression`: its specs Constants and Block.
 use mathlib.Core.List.{List, [], _∷_, _++_}
 use Prim.Native.Nat.{ℕ, zero, suc, _-_, _*_, _/_, _%_, _^_}
 use lib.ListN.{length, take, drop, replicate}
@@ -14,7 +14,7 @@ bytes zero x = []
 bytes (suc k) x = x / 2 ^ (8 * k) % 2 ^ 8 ∷ bytes k x
 
 -- §5.1.1: the padded message: the message, the bit 1 and seven zeros, the least number of bytes of zeros, and the count of bits in eight bytes.
--- That these zeros end the block, and that fewer would not: zeros-fit and zeros-least in proofs/Padding.antt
+-- That these zeros end the block, and that fewer would not: `zeros-fit` and `zeros-least` in proofs/Padding.antt
 unfoldable pub zeros : ℕ → ℕ
 zeros n = (119 - n % 64) % 64
 

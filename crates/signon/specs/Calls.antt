@@ -1,4 +1,4 @@
--- What the other C functions answer and write: what the calls tell.
+-- What the C functions beside the card's answer and write: what the calls tell.
 use mathlib.Core.Path.{_≡_}
 use mathlib.Core.List.{List, [], _∷_}
 use Prim.Native.Nat.{ℕ, _+_, _*_}

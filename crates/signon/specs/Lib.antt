@@ -1,2 +1,2 @@
--- What the C functions answer, keep and write.
+-- What the C functions beside the card's answer and write.
 pub mod Calls

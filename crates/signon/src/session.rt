@@ -1,5 +1,5 @@
-// The card's calls as C functions: the host lends the record, and each call moves it on. Each is thin, since its proof is written out by
-// hand (tools/signon_walks.py): the record is copied out, the step is called, the next record is stored.
+// The card's calls as C functions: the host lends the record, and each call moves it on. Each has the one form for which tools/signon_walks.py
+// writes the proof: the record is copied out, the step is called, the next record is stored.
 use card_for_c::Answer;
 use card_for_c::steps::answer_for_c;
 use card_for_c::steps::begin_for_c;
