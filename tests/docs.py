@@ -4,23 +4,31 @@
     python3 tests/docs.py
 
 Docs and comments: every function with a path and every file that they name is there, and, but for the READMEs, every law whose name has a hyphen.
-docs/READING.md: it has every must-fail edit and no other, and its line counts are right.
+docs/READING.md: it names every file of definitions, and its line counts are right.
+docs/WRONG_PROGRAMS.md: it has every must-fail edit and no other, those of code apart from those of definitions, and two or more for each public call.
 Comments: the crates and specs that they name are there, and what they say of where code and laws stand is so.
 
 Exit status 1 where there is a fault.
 """
 import re
 import sys
+from collections import Counter
 from functools import cache
 from itertools import groupby
 from pathlib import Path
 
 ROOT = Path(__file__).resolve().parents[1]
 READING = ROOT / "docs" / "READING.md"
+WRONG_PROGRAMS = ROOT / "docs" / "WRONG_PROGRAMS.md"
+CALLS = ["hash", "readers", "named round", "writers", "draw permutation", "draw challenges", "draw bits", "draw choices", "make key", "key check"]
+CALLS += ["begin", "answer", "open", "give up", "stand-in", "verdict", "program's input", "C functions"]
+"""The public calls by the names that docs/WRONG_PROGRAMS.md has for them."""
 NOT_COUNTED = re.compile(r"\s*$|use |ghost use ")
 """A line that READING's counts leave out: blank, or an import."""
 COMMENT = re.compile(r"\s*(?://|--) ?(.*)")
 """A line of a comment: what stands behind its mark."""
+WORDS = re.compile(r"(.*\S.*)")
+"""A line of a paragraph."""
 LIST = r"(?:`?\w+`?(?:, | and ))*`?\w+`?"
 """One name, or several as in "`x`, `y` and `z`"."""
 
@@ -99,20 +107,44 @@ def documents():
 
 
 def counts_wrong(line):
-    """What a row `file | lines | ..` counts wrongly."""
-    row = re.match(r"\| (crates/\S+\.antt) \| (\d+) \|", line)
+    """What a row `file | lines | ..` counts wrongly, or a row `name (file) | lines | ..`, whose lines go from the name's to the next blank one."""
+    row = re.match(r"\| (?:`(\w+)` \()?(crates/\S+\.antt)\)? \| (\d+) \|", line)
     if row:
-        counted = sum(not NOT_COUNTED.match(one) for one in read(ROOT / row[1]).splitlines())
-        if counted != int(row[2]):
-            yield f"{row[1]} has {counted} lines, not {row[2]}"
+        name, file, lines = row.groups()
+        text = read(ROOT / file)
+        if name:
+            text = re.search(rf"^(?:abbrev )?pub (?:record )?{name} .*?(?=\n\n|\Z)|\Z", text, re.MULTILINE | re.DOTALL)[0]
+        counted = sum(not NOT_COUNTED.match(one) for one in text.splitlines())
+        if counted != int(lines):
+            yield f"{name or file} has {counted} lines, not {lines}"
 
 
-def edits_wrong(lines):
-    """The edits of the table that are not there, and those that the table leaves out."""
-    in_table = {match.groups() for match in (re.match(r"\| (\w+) \| `(\w+)` \|", line) for line in lines) if match}
-    kept = {(path.parts[-3], path.stem) for path in ROOT.glob("crates/*/must-fail/*.edit")}
-    yield from (f"no edit {crate} `{edit}`" for crate, edit in sorted(in_table - kept))
-    yield from (f"the table leaves out {crate} `{edit}`" for crate, edit in sorted(kept - in_table))
+def specs_left_out(text):
+    """The files of definitions that the text does not name."""
+    for path in sorted(ROOT.glob("crates/*/specs/*.antt")):
+        name = str(path.relative_to(ROOT))
+        if path.stem != "Lib" and name not in text:
+            yield f"leaves out {name}"
+
+
+def rows_of_edits(text):
+    """Crate, edit, the folder that its section is about, and the calls that it names."""
+    sections = re.split(r"^## Edits of (code|definitions)$", text, flags=re.MULTILINE)
+    for folder, section in zip(sections[1::2], sections[2::2]):
+        for crate, edit, calls in re.findall(r"^\| (\w+) \| `(\w+)` \| ([^|]+) \|", section, re.MULTILINE):
+            yield crate, edit, "src" if folder == "code" else "specs", calls.split(", ")
+
+
+def edits_wrong(text):
+    """The edits of the tables that are not there or in the wrong one, those that they leave out, and calls that they do not name or know."""
+    in_tables = list(rows_of_edits(text))
+    kept = {(path.parts[-3], path.stem, folder) for path in ROOT.glob("crates/*/must-fail/*.edit") for folder in re.findall(r"^file: (\w+)/", read(path), re.MULTILINE)}
+    named = [(crate, edit, folder) for crate, edit, folder, _ in in_tables]
+    yield from (f"no edit {crate} `{edit}` of {folder}/" for crate, edit, folder in sorted({*named} - kept))
+    yield from (f"leaves out {crate} `{edit}` of {folder}/" for crate, edit, folder in sorted(kept - {*named}))
+    times = Counter(call for *_, calls in in_tables for call in calls)
+    yield from (f"has {times[call]} edits for the call {call}" for call in CALLS if times[call] < 2)
+    yield from (f"no call {call}" for call in times if call not in [*CALLS, "all"])
 
 
 def faults_of_docs(known):
@@ -122,8 +154,9 @@ def faults_of_docs(known):
             if path.parts[0] == "docs":
                 found += laws_missing(line, known)
             yield from (f"{path}:{number}: {fault}" for fault in found)
-    for fault in edits_wrong(read(READING).splitlines()):
-        yield f"{READING.relative_to(ROOT)}: {fault}"
+        yield from (f"{path}:{number}: {fault}" for number, text in passages(lines, WORDS) for fault in said_by_hand(text))
+    yield from (f"docs/READING.md: {fault}" for fault in specs_left_out(read(READING)))
+    yield from (f"docs/WRONG_PROGRAMS.md: {fault}" for fault in edits_wrong(read(WRONG_PROGRAMS)))
 
 
 # --- Comments ---
