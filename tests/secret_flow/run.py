@@ -4,7 +4,7 @@
     python3 tests/secret_flow/run.py
 
 Needs rt, gcc, objdump and valgrind (on Debian 12 `apt-get install -y valgrind`). A line is a call, what was marked as secret, branch or index, the symbol of
-the archive, the instruction's offset there and the instruction. docs/READING.md says what each is in the source.
+the archive, the instruction's offset there and the instruction. docs/EVIDENCE.md says what each is in the source.
 """
 import re
 import subprocess
