@@ -124,10 +124,11 @@ static void change_number(struct drafts *drafts, const struct edit *e)
 {
     static const size_t limits[] = {0, 1, 2, 19, 20, 30, 31, 63, 64, 65, 250, 251, 255, 256, 257, (size_t)1 << 32, SIZE_MAX};
     size_t *number = &drafts->numbers[e->place % (size_t)TRAITS[drafts->call].numbers];
-    switch (e->how % 4) {
+    switch (e->how % 5) {
     case 0: *number -= 1; break;
     case 1: *number += 1; break;
-    case 2: *number += (size_t)1 << (e->value % 2 ? 8 : 32); break;
+    case 2: *number = drafts->sizes.rounds; break;
+    case 3: *number += (size_t)1 << (e->value % 2 ? 8 : 32); break;
     default: *number = limits[e->value % (sizeof limits / sizeof *limits)];
     }
 }

@@ -1,5 +1,5 @@
 /* Makes calls, for fuzzing and for the generated calls. A recipe is bytes: which call, sizes, a seed, at which edges the buffers lie, and then edits. What an
-   honest card or register would lend is made from the seed, so a recipe without edits has nothing wrong; and every byte, size and order of buffers can be
+   honest card or register would lend is made from the seed, so a recipe without edits is well formed; and every byte, size and order of buffers can be
    reached by edits. */
 #ifndef RECIPES_H
 #define RECIPES_H
@@ -39,8 +39,8 @@ void make_call(struct recipe *recipe, const int calls[], size_t count, struct dr
 /* Sizes for a call: often small ones, whose every place is met soon, the greatest, and rounds about what a grade asks. */
 struct sizes next_sizes(struct recipe *recipe, int call);
 
-/* Numbers and buffers as an honest end would lend them to drafts->call in a sign-on of drafts->sizes: an output longer than needed at times, and too few
-   random bytes for a drawing. */
+/* Numbers and buffers as an honest end would lend them to drafts->call in a sign-on of drafts->sizes; it may lend an output of another size than needed, and
+   too few random bytes. */
 void make_honest(struct random *random, struct drafts *drafts);
 
 /* One edit, as the recipe says. */
