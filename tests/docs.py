@@ -109,7 +109,7 @@ def documents():
 def counts_wrong(line):
     """What a row `file | lines | ..` counts wrongly, or a row `name (file) | lines | ..`, whose lines go from the name's to the next blank one."""
     row = re.match(r"\| (?:`(\w+)` \()?(crates/\S+\.antt)\)? \| (\d+) \|", line)
-    if row:
+    if row and (ROOT / row[2]).is_file():
         name, file, lines = row.groups()
         text = read(ROOT / file)
         if name:
