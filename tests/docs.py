@@ -207,15 +207,17 @@ def needs():
     return {crate: set(needed.split()) for crate, _, needed in rows}
 
 
-def has_functions(crate):
-    return any(re.search(r"\bfn ", read(path)) for path in ROOT.glob(f"crates/{crate}/src/**/*.rt"))
+def cites(user, crate):
+    """Whether contracts of the user's code cite definitions of the crate."""
+    return any(f"Rattle.{crate}.specs." in read(path) for path in ROOT.glob(f"crates/{user}/src/**/*.rt"))
 
 
 def code_elsewhere(crate, text):
-    """Where "the code stands in the crate(s) .." these need this one, and all are named that have functions and need it with no crate between."""
+    """Where "the code stands in the crate(s) .." these need this one, and all are named that cite it with no such crate between."""
     for names in re.findall(rf"\bcode stands in the crates? ({LIST})", text, re.IGNORECASE):
         users = {user for user in needs() if crate in needs()[user]}
-        nearest = {user for user in users if not users & needs()[user] and has_functions(user)}
+        citing = {user for user in users if cites(user, crate)}
+        nearest = {user for user in citing if not citing & needs()[user]}
         yield from (f"crate {name} does not need {crate}" for name in sorted({*listed(names)} - users))
         yield from (f"the code stands in crate {name} too" for name in sorted(nearest - {*listed(names)}))
 

@@ -126,8 +126,7 @@ static void set_numbers(struct drafts *drafts, size_t first, size_t second)
 static void make_to_write(struct random *random, int kind, struct drafts *drafts)
 {
     struct draft *plain = &drafts->buffers[buffer_of(kind)];
-    bool of_rounds = kind == COMMITMENTS || kind == CHALLENGES || kind == BITS;
-    set_numbers(drafts, of_rounds ? drafts->sizes.rounds : drafts->sizes.n, kind == SYSTEM ? drafts->sizes.m : drafts->sizes.rounds);
+    set_numbers(drafts, first_number(kind, drafts->sizes), second_number(kind, drafts->sizes));
     plain->size = make_rest(random, kind, drafts->sizes, plain->bytes);
     make_output(random, start_of(kind) + plain->size, drafts);
 }
@@ -148,7 +147,7 @@ static void make_to_draw(struct random *random, struct drafts *drafts)
         make_drawing(random, n, n, drafts);
         break;
     case DRAW_CHALLENGES: make_drawing(random, rounds, SIGNON_CHALLENGES_SIZE(rounds), drafts); break;
-    case DRAW_BITS: make_drawing(random, (rounds + 7) / 8, SIGNON_BITS_SIZE(rounds), drafts); break;
+    case DRAW_BITS: make_drawing(random, packed_size(rounds), SIGNON_BITS_SIZE(rounds), drafts); break;
     case DRAW_CHOICES:
         set_numbers(drafts, n, rounds);
         make_drawing(random, SIGNON_CHOICES_SIZE(n, rounds), SIGNON_CHOICES_SIZE(n, rounds), drafts);

@@ -46,10 +46,16 @@ static void draw_permutation(struct source *source, size_t n, uint8_t *out)
     }
 }
 
-/* The bytes used, or that they ran out. */
-static struct signon_answer told_of(const struct source *source)
+/* ROOM, then DRAW; what was drawn goes over the front of the output, and the answer tells the bytes used. */
+static struct signon_answer put_drawn(const struct source *source, const uint8_t *drawn, size_t size, struct bytes out)
 {
-    return source->ran_out ? refuse(SIGNON_DRAW, SIGNON_RANDOM, source->random.size) : done(source->used);
+    struct signon_answer a = check_room(size, out);
+    if (refused(a))
+        return a;
+    if (source->ran_out)
+        return refuse(SIGNON_DRAW, SIGNON_RANDOM, source->random.size);
+    memcpy(out.at, drawn, size);
+    return done(source->used);
 }
 
 struct signon_answer plain_draw_permutation(size_t n, struct bytes random, struct bytes out)
@@ -58,67 +64,44 @@ struct signon_answer plain_draw_permutation(size_t n, struct bytes random, struc
     struct source source = source_of(random);
     if (!is_n(n))
         return bad_number();
-    struct signon_answer a = check_room(n, out);
-    if (refused(a))
-        return a;
     draw_permutation(&source, n, drawn);
-    a = told_of(&source);
-    if (!refused(a))
-        memcpy(out.at, drawn, n);
-    return a;
+    return put_drawn(&source, drawn, n, out);
 }
 
 struct signon_answer plain_draw_challenges(size_t rounds, struct bytes random, struct bytes out)
 {
-    uint8_t drawn[SIGNON_MOST_ROUNDS];
+    uint8_t frame[SIGNON_CHALLENGES_SIZE(SIGNON_MOST_ROUNDS)];
     struct source source = source_of(random);
     if (!is_rounds(rounds))
         return bad_number();
-    struct signon_answer a = check_room(SIGNON_CHALLENGES_SIZE(rounds), out);
-    if (refused(a))
-        return a;
-    draw_bytes(&source, SIGNON_MODULUS, rounds, drawn);
-    a = told_of(&source);
-    if (!refused(a))
-        plain_write(CHALLENGES, rounds, 0, (struct bytes){drawn, rounds}, out);
-    return a;
+    put_heading(CHALLENGES, rounds, 0, rounds, frame);
+    draw_bytes(&source, SIGNON_MODULUS, rounds, frame + start_of(CHALLENGES));
+    return put_drawn(&source, frame, SIGNON_CHALLENGES_SIZE(rounds), out);
 }
 
 struct signon_answer plain_draw_bits(size_t rounds, struct bytes random, struct bytes out)
 {
-    uint8_t drawn[SIGNON_BITS_SIZE(SIGNON_MOST_ROUNDS)];
+    uint8_t frame[SIGNON_BITS_SIZE(SIGNON_MOST_ROUNDS)];
     struct source source = source_of(random);
     if (!is_rounds(rounds))
         return bad_number();
-    struct signon_answer a = check_room(SIGNON_BITS_SIZE(rounds), out);
-    if (refused(a))
-        return a;
-    size_t packed = (rounds + 7) / 8;
-    draw_bytes(&source, BYTES, packed, drawn);
-    drawn[packed - 1] &= (uint8_t)(0xff << (8 * packed - rounds));
-    a = told_of(&source);
-    if (!refused(a))
-        plain_write(BITS, rounds, 0, (struct bytes){drawn, packed}, out);
-    return a;
+    put_heading(BITS, rounds, 0, packed_size(rounds), frame);
+    draw_bytes(&source, BYTES, packed_size(rounds), frame + start_of(BITS));
+    clear_unused(rounds, frame + start_of(BITS));
+    return put_drawn(&source, frame, SIGNON_BITS_SIZE(rounds), out);
 }
 
 struct signon_answer plain_draw_choices(size_t n, size_t rounds, struct bytes random, struct bytes out)
 {
-    uint8_t drawn[SIGNON_CHOICES_SIZE(SIGNON_MOST_N, SIGNON_MOST_ROUNDS)];
+    uint8_t drawn[SIGNON_CHOICES_SIZE(SIGNON_MOST_N, SIGNON_MOST_ROUNDS)], *next = drawn;
     struct source source = source_of(random);
     if (!is_n(n) || !is_rounds(rounds))
         return bad_number();
-    struct signon_answer a = check_room(SIGNON_CHOICES_SIZE(n, rounds), out);
-    if (refused(a))
-        return a;
-    for (size_t k = 0; k < rounds; k++) {
-        draw_bytes(&source, SIGNON_MODULUS, n, drawn + 2 * n * k);
-        draw_permutation(&source, n, drawn + 2 * n * k + n);
+    for (size_t k = 0; k < rounds; k++, next += 2 * n) {
+        draw_bytes(&source, SIGNON_MODULUS, n, next);
+        draw_permutation(&source, n, next + n);
     }
-    a = told_of(&source);
-    if (!refused(a))
-        memcpy(out.at, drawn, SIGNON_CHOICES_SIZE(n, rounds));
-    return a;
+    return put_drawn(&source, drawn, SIGNON_CHOICES_SIZE(n, rounds), out);
 }
 
 /* The last m entries of X, for which A X is zero. */
@@ -134,25 +117,19 @@ static void complete(const struct public_data *d, uint8_t *x)
 
 struct signon_answer plain_make_key(struct bytes system, struct bytes random, struct bytes out)
 {
-    uint8_t pi[SIGNON_MOST_N], x[SIGNON_MOST_N], vector[SIGNON_MOST_N];
+    uint8_t pi[SIGNON_MOST_N], x[SIGNON_MOST_N], vector[SIGNON_MOST_N], both[SIGNON_KEY_SIZE(SIGNON_MOST_N)];
     struct source source = source_of(random);
     struct signon_answer a = plain_read(SYSTEM, system);
     if (refused(a))
         return a;
     struct public_data d = {SIGNON_FIRST_NUMBER(a), SIGNON_SECOND_NUMBER(a), system.at + start_of(SYSTEM), vector};
-    a = check_room(SIGNON_KEY_SIZE(d.n), out);
-    if (refused(a))
-        return a;
     draw_permutation(&source, d.n, pi);
     draw_bytes(&source, SIGNON_MODULUS, d.n - d.m, x);
-    a = told_of(&source);
-    if (refused(a))
-        return a;
     complete(&d, x);
     for (size_t j = 0; j < d.n; j++)
         vector[pi[j]] = x[j];
     size_t size = SIGNON_PUBLIC_KEY_SIZE(d.n);
-    plain_write(PUBLIC_KEY, d.n, 0, (struct bytes){vector, d.n}, out);
-    plain_write(SECRET_KEY, d.n, 0, (struct bytes){pi, d.n}, (struct bytes){out.at + size, out.size - size});
-    return a;
+    plain_write(PUBLIC_KEY, d.n, 0, (struct bytes){vector, d.n}, (struct bytes){both, size});
+    plain_write(SECRET_KEY, d.n, 0, (struct bytes){pi, d.n}, (struct bytes){both + size, SIGNON_SECRET_KEY_SIZE(d.n)});
+    return put_drawn(&source, both, SIGNON_KEY_SIZE(d.n), out);
 }

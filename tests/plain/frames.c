@@ -7,6 +7,11 @@ int buffer_of(int kind)
     return kind < COMMITMENTS ? kind : kind + 1;
 }
 
+bool starts_with_rounds(int kind)
+{
+    return kind == COMMITMENTS || kind == CHALLENGES || kind == BITS;
+}
+
 static bool has_two_numbers(int kind)
 {
     return kind == SYSTEM || kind == FIRST_ANSWERS || kind == OPENINGS;
@@ -22,7 +27,7 @@ static size_t rest_size(int kind, size_t first, size_t second)
     switch (kind) {
     case SYSTEM: return second * (first - second);
     case COMMITMENTS: return 2 * DIGEST * first;
-    case BITS: return (first + 7) / 8;
+    case BITS: return packed_size(first);
     case FIRST_ANSWERS:
     case OPENINGS: return first * second;
     default: return first;
@@ -41,19 +46,28 @@ static bool rounds_fit(size_t number, size_t asked)
 
 static bool numbers_fit(int kind, size_t first, size_t second, size_t n, size_t rounds)
 {
-    bool first_is_n = kind != COMMITMENTS && kind != CHALLENGES && kind != BITS;
-    if (!(first_is_n ? n_fits(first, n) : rounds_fit(first, rounds)))
+    if (!(starts_with_rounds(kind) ? rounds_fit(first, rounds) : n_fits(first, n)))
         return false;
     if (kind == SYSTEM)
         return 1 <= second && second < first;
     return !has_two_numbers(kind) || rounds_fit(second, rounds);
 }
 
+/* The bits of a last byte that stand for no round. */
+static uint8_t unused_bits(size_t rounds)
+{
+    return (uint8_t)((1u << (8 * packed_size(rounds) - rounds)) - 1);
+}
+
+void clear_unused(size_t rounds, uint8_t *packed)
+{
+    packed[packed_size(rounds) - 1] &= (uint8_t)~unused_bits(rounds);
+}
+
 /* Of bits at the end of a frame, or by themselves. */
 static bool unused_bit_set(struct bytes packed, size_t rounds)
 {
-    size_t unused = (8 - rounds % 8) % 8;
-    return (packed.at[packed.size - 1] & ((1u << unused) - 1)) != 0;
+    return (packed.at[packed.size - 1] & unused_bits(rounds)) != 0;
 }
 
 static struct signon_answer check_header(int kind, struct bytes frame)

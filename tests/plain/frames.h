@@ -19,8 +19,15 @@ static inline struct signon_answer check_room(size_t need, struct bytes out) { r
 /* The buffer of a kind's frame, and of what a writer makes it from. */
 int buffer_of(int kind);
 
+/* Whether the first number of a kind is N, and not n. */
+bool starts_with_rounds(int kind);
+
 /* Where the rest of a frame starts, behind its numbers. */
 size_t start_of(int kind);
+
+/* How many bytes the bits of so many rounds have; and those of the last byte that stand for no round cleared. */
+static inline size_t packed_size(size_t rounds) { return (rounds + 7) / 8; }
+void clear_unused(size_t rounds, uint8_t *packed);
 
 /* Reads a frame whose n and rounds have to be these, or anything within the limits for ANY. */
 struct signon_answer read_frame(int kind, struct bytes frame, size_t n, size_t rounds);

@@ -45,9 +45,9 @@ static size_t make_permutations(struct random *random, size_t n, size_t count, u
 
 static size_t make_bits(struct random *random, size_t rounds, uint8_t *out)
 {
-    size_t packed = make_bytes(random, (rounds + 7) / 8, out);
-    out[packed - 1] &= (uint8_t)(0xff << (8 * packed - rounds));
-    return packed;
+    make_bytes(random, packed_size(rounds), out);
+    clear_unused(rounds, out);
+    return packed_size(rounds);
 }
 
 size_t make_rest(struct random *random, int kind, struct sizes sizes, uint8_t *out)
@@ -65,11 +65,20 @@ size_t make_rest(struct random *random, int kind, struct sizes sizes, uint8_t *o
     }
 }
 
+size_t first_number(int kind, struct sizes sizes)
+{
+    return starts_with_rounds(kind) ? sizes.rounds : sizes.n;
+}
+
+size_t second_number(int kind, struct sizes sizes)
+{
+    return kind == SYSTEM ? sizes.m : sizes.rounds;
+}
+
 size_t make_frame(struct random *random, int kind, struct sizes sizes, uint8_t *out)
 {
-    bool of_rounds = kind == COMMITMENTS || kind == CHALLENGES || kind == BITS;
     size_t rest = make_rest(random, kind, sizes, out + start_of(kind));
-    put_heading(kind, of_rounds ? sizes.rounds : sizes.n, kind == SYSTEM ? sizes.m : sizes.rounds, rest, out);
+    put_heading(kind, first_number(kind, sizes), second_number(kind, sizes), rest, out);
     return start_of(kind) + rest;
 }
 

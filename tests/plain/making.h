@@ -19,6 +19,9 @@ size_t below(struct random *random, size_t limit);
 
 size_t make_bytes(struct random *random, size_t count, uint8_t *out);
 size_t make_residues(struct random *random, size_t count, uint8_t *out);
+/* The numbers of a kind's frame; the second is for kinds that have two. */
+size_t first_number(int kind, struct sizes sizes);
+size_t second_number(int kind, struct sizes sizes);
 /* Any well-formed rest of a frame, and the frame. */
 size_t make_rest(struct random *random, int kind, struct sizes sizes, uint8_t *out);
 size_t make_frame(struct random *random, int kind, struct sizes sizes, uint8_t *out);

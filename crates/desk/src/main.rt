@@ -9,8 +9,8 @@ use desk_files::slots::FILE_MOST;
 use desk_files::slots::SLOT;
 use desk_files::slots::SLOTS;
 use desk_files::slots::file;
+use frame_words::show;
 use refusals::buffer::NONE;
-use words::show::show;
 
 // The argument that names the command.
 const NAME_AT: usize = 1;

@@ -2,8 +2,8 @@
 use desk_files::save::save;
 use desk_files::slots::file;
 use hosting::bytes::front;
+use refusal_words::tell_refusal;
 use refusals::Refusal;
-use words::refusal::tell_refusal;
 use writers::Written;
 
 pub fn refuse(x: Refusal, lent: &[u8]) {

@@ -1,14 +1,11 @@
 // Runs the cases of standard input over the sign-on's calls and prints what came of each. The model of tests/model writes the cases and
 // what is to be printed, and says how both are spelt.
-use crate::case::big_endian;
 use crate::replay::replay;
 use libc::STDIN_FILENO;
+use replay_cases::case::big_endian;
 ghost use Rattle.io.specs.Counts.{Counts};
 
-mod case;
 mod replay;
-mod sign_on;
-mod tell;
 
 // A proved loop has to end, and nothing says that the input does: no run has so many cases.
 const MOST_CASES: usize = 1000000;

@@ -1,14 +1,4 @@
-// The calls by their numbers in a case, each with its line.
-use crate::case::buffer_of;
-use crate::case::call_of;
-use crate::case::number_of;
-use crate::sign_on::replay_sign_on;
-use crate::tell::tell_bytes;
-use crate::tell::tell_checked;
-use crate::tell::tell_number;
-use crate::tell::tell_read;
-use crate::tell::tell_taken;
-use crate::tell::tell_written;
+// The calls by their numbers in a case, each with its line; those of the card and of the register are in the crate `replay_sign_on`.
 use algebra::wide;
 use draw::choices::draw_choices;
 use draw::messages::draw_bits;
@@ -21,6 +11,16 @@ use libc::STDOUT_FILENO;
 use readers::by_number::read_kind;
 use readers::opening::check_opening;
 use readers::opening::opening;
+use replay_cases::case::buffer_of;
+use replay_cases::case::call_of;
+use replay_cases::case::number_of;
+use replay_cases::line::tell_bytes;
+use replay_cases::line::tell_checked;
+use replay_cases::line::tell_number;
+use replay_cases::line::tell_read;
+use replay_cases::line::tell_taken;
+use replay_cases::line::tell_written;
+use replay_sign_on::replay_sign_on;
 use sha256::hash;
 use stand_in::stand_in;
 use writers::Written;

@@ -1,15 +1,15 @@
--- `replay::tell::adler_32` is safe and ends: both sums are reduced at every turn.
+-- `replay_cases::case::big_endian` is safe and ends: `i` stays within the bytes, and what is left of them is the measure.
 use borrow.Author.Needs.{needs}
-use Prim.Native.Nat.{_≤_, _<_, _-_}
+use Prim.Native.Nat.{_≤_, _-_}
 use lib.ListN.{length}
-use Rattle.replay.proofs.tell.adler_32.Statement.{statement}
-use Rattle.replay.proofs.tell.adler_32.Tie as tie
+use Rattle.replay_cases.proofs.case.big_endian.Statement.{statement}
+use Rattle.replay_cases.proofs.case.big_endian.Tie as tie
 
 abbrev Inv-loop : tie.InvT-loop
-Inv-loop bytes sum₀ sums₀ i₀ sum sums i = (i ≤ length bytes) × (sum < 65521) × (sums < 65521)
+Inv-loop bytes value₀ i₀ value i = i ≤ length bytes
 
 abbrev μ-loop : tie.MeasureT-loop
-μ-loop bytes sum₀ sums₀ i₀ sum sums i = length bytes - i
+μ-loop bytes value₀ i₀ value i = length bytes - i
 
 loop-holds : tie.Need-loop-holds Inv-loop μ-loop
 loop-holds c = search needs
@@ -20,12 +20,6 @@ shared-slice-read-wide c = search needs
 wide-requires : tie.Need-wide-requires Inv-loop μ-loop
 wide-requires c κs = search needs
 
-add-sum : tie.Need-add-sum Inv-loop μ-loop
-add-sum c = search needs
-
-add-sums : tie.Need-add-sums Inv-loop μ-loop
-add-sums c = search needs
-
 add-i : tie.Need-add-i Inv-loop μ-loop
 add-i c = search needs
 
@@ -35,17 +29,11 @@ loop-less c = search needs
 loop-again : tie.Need-loop-again Inv-loop μ-loop
 loop-again c = search needs
 
-mul-result : tie.Need-mul-result Inv-loop μ-loop
-mul-result c = search needs
-
-add-result : tie.Need-add-result Inv-loop μ-loop
-add-result c = search needs
-
 returns : tie.Need-returns Inv-loop μ-loop
 returns c = search needs
 
-pub adler-32-spec : {M : Type 1} → statement M
-adler-32-spec =
+pub big-endian-spec : {M : Type 1} → statement M
+big-endian-spec =
     tie.close
     (tie.spec
     Inv-loop
@@ -53,11 +41,7 @@ adler-32-spec =
     loop-holds
     shared-slice-read-wide
     wide-requires
-    add-sum
-    add-sums
     add-i
     loop-less
     loop-again
-    mul-result
-    add-result
     returns)

@@ -1,21 +1,15 @@
--- `replay::tell::tell_hex` is safe and ends: `i` stays within the bytes, and what is left of them is the measure.
+-- `replay_cases::line::adler_32` is safe and ends: both sums are reduced at every turn.
 use borrow.Author.Needs.{needs}
-use Prim.Native.Nat.{_≤_, _-_}
+use Prim.Native.Nat.{_≤_, _<_, _-_}
 use lib.ListN.{length}
-use Rattle.replay.proofs.tell.tell_hex.Statement.{statement}
-use Rattle.replay.proofs.tell.tell_hex.Tie as tie
+use Rattle.replay_cases.proofs.line.adler_32.Statement.{statement}
+use Rattle.replay_cases.proofs.line.adler_32.Tie as tie
 
 abbrev Inv-loop : tie.InvT-loop
-Inv-loop bytes i₀ i = i ≤ length bytes
+Inv-loop bytes sum₀ sums₀ i₀ sum sums i = (i ≤ length bytes) × (sum < 65521) × (sums < 65521)
 
 abbrev μ-loop : tie.MeasureT-loop
-μ-loop bytes i₀ i = length bytes - i
-
-slice-aggregate-write-all : tie.Need-slice-aggregate-write-all Inv-loop μ-loop
-slice-aggregate-write-all c = search needs
-
-write-all-requires : tie.Need-write-all-requires Inv-loop μ-loop
-write-all-requires c κs = search needs
+μ-loop bytes sum₀ sums₀ i₀ sum sums i = length bytes - i
 
 loop-holds : tie.Need-loop-holds Inv-loop μ-loop
 loop-holds c = search needs
@@ -26,8 +20,11 @@ shared-slice-read-wide c = search needs
 wide-requires : tie.Need-wide-requires Inv-loop μ-loop
 wide-requires c κs = search needs
 
-print-hex-requires : tie.Need-print-hex-requires Inv-loop μ-loop
-print-hex-requires c κs = search needs
+add-sum : tie.Need-add-sum Inv-loop μ-loop
+add-sum c = search needs
+
+add-sums : tie.Need-add-sums Inv-loop μ-loop
+add-sums c = search needs
 
 add-i : tie.Need-add-i Inv-loop μ-loop
 add-i c = search needs
@@ -38,22 +35,29 @@ loop-less c = search needs
 loop-again : tie.Need-loop-again Inv-loop μ-loop
 loop-again c = search needs
 
+mul-result : tie.Need-mul-result Inv-loop μ-loop
+mul-result c = search needs
+
+add-result : tie.Need-add-result Inv-loop μ-loop
+add-result c = search needs
+
 returns : tie.Need-returns Inv-loop μ-loop
 returns c = search needs
 
-pub tell-hex-spec : {M : Type 1} → statement M
-tell-hex-spec =
+pub adler-32-spec : {M : Type 1} → statement M
+adler-32-spec =
     tie.close
     (tie.spec
     Inv-loop
     μ-loop
-    slice-aggregate-write-all
-    write-all-requires
     loop-holds
     shared-slice-read-wide
     wide-requires
-    print-hex-requires
+    add-sum
+    add-sums
     add-i
     loop-less
     loop-again
+    mul-result
+    add-result
     returns)

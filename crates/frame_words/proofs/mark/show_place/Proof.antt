@@ -1,9 +1,9 @@
--- `words::mark::show_place` is safe and ends: what is left of the bytes is the measure.
+-- `frame_words::mark::show_place` is safe and ends: what is left of the bytes is the measure.
 use borrow.Author.Needs.{needs}
 use Prim.Native.Nat.{_≤_, _-_}
 use lib.ListN.{length}
-use Rattle.words.proofs.mark.show_place.Statement.{statement}
-use Rattle.words.proofs.mark.show_place.Tie as tie
+use Rattle.frame_words.proofs.mark.show_place.Statement.{statement}
+use Rattle.frame_words.proofs.mark.show_place.Tie as tie
 
 abbrev Inv-loop : tie.InvT-loop
 Inv-loop bytes place start i₀ t7 i = start ≤ i

@@ -1,6 +1,5 @@
-// Any frame in words: its kind, its numbers and its values in rows, or its refusal with the place marked.
+// Any frame in words for a person: its kind, its numbers and its values in rows, or its refusal with the place marked.
 use crate::mark::show_place;
-use crate::refusal::tell_refusal;
 use crate::values::say_bits;
 use crate::values::say_digests;
 use crate::values::say_rows;
@@ -11,7 +10,11 @@ use hosting::bytes::byte_of;
 use hosting::text::say;
 use hosting::text::say_with;
 use readers::by_number::read_kind;
+use refusal_words::tell_refusal;
 use refusals::Refusal;
+
+mod mark;
+mod values;
 
 // The rows of A'.
 fn show_system(n: usize, m: usize, entries: &[u8]) {

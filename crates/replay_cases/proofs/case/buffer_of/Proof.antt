@@ -1,9 +1,9 @@
--- `replay::case::buffer_of` is safe and ends: `at` stays within the case, and the buffers still to be passed over are the measure.
+-- `replay_cases::case::buffer_of` is safe and ends: `at` stays within the case, and the buffers still to be passed over are the measure.
 use borrow.Author.Needs.{needs}
 use Prim.Native.Nat.{_≤_, _-_}
 use lib.ListN.{length}
-use Rattle.replay.proofs.case.buffer_of.Statement.{statement}
-use Rattle.replay.proofs.case.buffer_of.Tie as tie
+use Rattle.replay_cases.proofs.case.buffer_of.Statement.{statement}
+use Rattle.replay_cases.proofs.case.buffer_of.Tie as tie
 
 abbrev Inv-loop : tie.InvT-loop
 Inv-loop case k at₀ j₀ at j = at ≤ length case

@@ -1,8 +1,8 @@
--- `words::values::say_bits` ends: the bits still to be said are the measure.
+-- `frame_words::values::say_bits` ends: the bits still to be said are the measure.
 use borrow.Author.Needs.{needs}
 use Prim.Native.Nat.{_≤_, _-_}
-use Rattle.words.proofs.values.say_bits.Statement.{statement}
-use Rattle.words.proofs.values.say_bits.Tie as tie
+use Rattle.frame_words.proofs.values.say_bits.Statement.{statement}
+use Rattle.frame_words.proofs.values.say_bits.Tie as tie
 
 abbrev Inv-loop : tie.InvT-loop
 Inv-loop rounds bytes k₀ t5 k = k ≤ rounds

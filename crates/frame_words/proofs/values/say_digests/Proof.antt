@@ -1,9 +1,9 @@
--- `words::values::say_digests` is safe and ends: what is left of the bytes is the measure.
+-- `frame_words::values::say_digests` is safe and ends: what is left of the bytes is the measure.
 use borrow.Author.Needs.{needs}
 use Prim.Native.Nat.{_≤_, _-_}
 use lib.ListN.{length}
-use Rattle.words.proofs.values.say_digests.Statement.{statement}
-use Rattle.words.proofs.values.say_digests.Tie as tie
+use Rattle.frame_words.proofs.values.say_digests.Statement.{statement}
+use Rattle.frame_words.proofs.values.say_digests.Tie as tie
 
 abbrev Inv-loop : tie.InvT-loop
 Inv-loop bytes i₀ t3 i = i ≤ length bytes

@@ -1,15 +1,21 @@
--- `replay::case::big_endian` is safe and ends: `i` stays within the bytes, and what is left of them is the measure.
+-- `replay_cases::line::tell_hex` is safe and ends: `i` stays within the bytes, and what is left of them is the measure.
 use borrow.Author.Needs.{needs}
 use Prim.Native.Nat.{_≤_, _-_}
 use lib.ListN.{length}
-use Rattle.replay.proofs.case.big_endian.Statement.{statement}
-use Rattle.replay.proofs.case.big_endian.Tie as tie
+use Rattle.replay_cases.proofs.line.tell_hex.Statement.{statement}
+use Rattle.replay_cases.proofs.line.tell_hex.Tie as tie
 
 abbrev Inv-loop : tie.InvT-loop
-Inv-loop bytes value₀ i₀ value i = i ≤ length bytes
+Inv-loop bytes i₀ i = i ≤ length bytes
 
 abbrev μ-loop : tie.MeasureT-loop
-μ-loop bytes value₀ i₀ value i = length bytes - i
+μ-loop bytes i₀ i = length bytes - i
+
+slice-aggregate-write-all : tie.Need-slice-aggregate-write-all Inv-loop μ-loop
+slice-aggregate-write-all c = search needs
+
+write-all-requires : tie.Need-write-all-requires Inv-loop μ-loop
+write-all-requires c κs = search needs
 
 loop-holds : tie.Need-loop-holds Inv-loop μ-loop
 loop-holds c = search needs
@@ -19,6 +25,9 @@ shared-slice-read-wide c = search needs
 
 wide-requires : tie.Need-wide-requires Inv-loop μ-loop
 wide-requires c κs = search needs
+
+print-hex-requires : tie.Need-print-hex-requires Inv-loop μ-loop
+print-hex-requires c κs = search needs
 
 add-i : tie.Need-add-i Inv-loop μ-loop
 add-i c = search needs
@@ -32,15 +41,18 @@ loop-again c = search needs
 returns : tie.Need-returns Inv-loop μ-loop
 returns c = search needs
 
-pub big-endian-spec : {M : Type 1} → statement M
-big-endian-spec =
+pub tell-hex-spec : {M : Type 1} → statement M
+tell-hex-spec =
     tie.close
     (tie.spec
     Inv-loop
     μ-loop
+    slice-aggregate-write-all
+    write-all-requires
     loop-holds
     shared-slice-read-wide
     wide-requires
+    print-hex-requires
     add-i
     loop-less
     loop-again

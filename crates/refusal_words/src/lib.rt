@@ -1,10 +1,13 @@
-// A refusal as one line: document 01's name, number, buffer and place, and a sentence.
+// A refusal as one line for a person: document 01's name, number, buffer and place, and a sentence.
 use crate::name::say_refusal_name;
 use crate::reason::say_reason;
 use algebra::wide;
 use hosting::text::say;
 use hosting::text::say_with;
 use refusals::Refusal;
+
+mod name;
+mod reason;
 
 // `bytes` is the buffer at fault; for STAGE it is the record.
 pub fn tell_refusal(x: Refusal, bytes: &[u8]) {

@@ -1,11 +1,4 @@
-// The calls of the card and of the register.
-use crate::case::buffer_of;
-use crate::case::number_of;
-use crate::tell::tell_bytes;
-use crate::tell::tell_checked;
-use crate::tell::tell_done;
-use crate::tell::tell_verdict;
-use crate::tell::tell_written;
+// The calls of the card and of the register by their numbers in a case, each with its line.
 use card::answer::answer_step;
 use card::begin::begin_step;
 use card::give_up::give_up_step;
@@ -17,6 +10,13 @@ use hosting::bytes::lay;
 use record_bytes::put_session;
 use record_bytes::session_of;
 use register::decide::verdict;
+use replay_cases::case::buffer_of;
+use replay_cases::case::number_of;
+use replay_cases::line::tell_bytes;
+use replay_cases::line::tell_checked;
+use replay_cases::line::tell_done;
+use replay_cases::line::tell_verdict;
+use replay_cases::line::tell_written;
 
 fn replay_key_check(case: &[u8]) {
     tell_checked(check_key(buffer_of(case, 0), buffer_of(case, 1), buffer_of(case, 2)));
