@@ -1,5 +1,7 @@
 // Residues modulo 251, vectors and permutations.
 // What is written goes over the front of the output, whose rest stays.
+#![tactic(auto)]
+
 ghost use Rattle.std.specs.Prelude.{◌≡◌, ◌<◌};
 
 pub mod output;

@@ -1,4 +1,6 @@
 // The card's steps with their answers as C takes them; the record still goes by value.
+#![tactic(auto)]
+
 pub mod answers;
 pub mod steps;
 

@@ -1,4 +1,6 @@
 // The card's loops: all commitments, all first answers, all openings, each over the front of a body.
+#![tactic(auto)]
+
 ghost use Rattle.std.specs.Prelude.{◌≡◌, ◌+◌, ◌*◌, ◌≤◌, ◌<◌, length};
 ghost use Rattle.algebra.specs.Lists.{joined, over, over_at};
 ghost use Rattle.algebra.specs.Residues.{modulus};

@@ -1,4 +1,6 @@
 // What the card's calls tell, keep and write, by definition. The code stands in the crate `card`.
+#![tactic(auto)]
+
 use card_rules::session::Session;
 use writers::Written;
 

@@ -1,4 +1,6 @@
 // The compression of SHA-256: the hash value after one block more. FIPS 180-4, section 6.2.2, steps 1 to 4.
+#![tactic(auto)]
+
 ghost use Rattle.std.specs.Prelude.{◌≡◌, length};
 ghost use Rattle.compression.specs.Block.{expand_of, W, turn_of, turns_of, compress_of};
 

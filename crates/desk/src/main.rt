@@ -1,4 +1,6 @@
 // The desk: a sign-on by hand, one command for each call, over files.
+#![tactic(auto)]
+
 use desk_arguments::command::{Command, command_named, is_unknown};
 use desk_arguments::help::help;
 use desk_arguments::take_in::take_in;

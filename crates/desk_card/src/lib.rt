@@ -1,4 +1,6 @@
 // The desk's commands at the card: each is lent the files of its arguments and room for its output, calls, and saves or tells what came.
+#![tactic(auto)]
+
 use card::answer::answer_step;
 use card::begin::begin_step;
 use card::give_up::give_up_step;

@@ -1,4 +1,6 @@
 // Arguments, and files by the arguments that name them: all are read before anything is done, and replaced whole or not at all.
+#![tactic(auto)]
+
 pub mod argument;
 pub mod load;
 pub mod save;

@@ -1,4 +1,6 @@
 // What came of a command: a refusal is told over the files of the command, an output is saved.
+#![tactic(auto)]
+
 use desk_files::save::save;
 use desk_files::slots::file;
 use hosting::bytes::front;

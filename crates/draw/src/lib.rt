@@ -1,4 +1,6 @@
 // Drawing from lent bytes. Each call measures first and writes then, so that bytes that run out leave the output as it was.
+#![tactic(auto)]
+
 ghost use Rattle.std.specs.Prelude.{◌≡◌, ◌≤◌, ◌<◌};
 ghost use Rattle.algebra.specs.Permutations.{longest};
 ghost use Rattle.kinds.specs.Kinds.{within, alone, frame_size};

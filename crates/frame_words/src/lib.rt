@@ -1,4 +1,6 @@
 // Any frame in words for a person: its kind, its numbers and its values in rows, or its refusal with the place marked.
+#![tactic(auto)]
+
 use crate::mark::show_place;
 use crate::values::{say_bits, say_digests, say_rows};
 use algebra::wide;

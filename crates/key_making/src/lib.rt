@@ -1,4 +1,6 @@
 // Key making: pi, then the start of X, of which the rest makes A X zero, and V with V[pi[j]] = X[j].
+#![tactic(auto)]
+
 ghost use Rattle.std.specs.Prelude.{◌≡◌, ◌++◌, ◌≤◌, length, take, drop};
 ghost use Rattle.refusals.specs.Told.{fine};
 ghost use Rattle.algebra.specs.Lists.{over};

@@ -1,4 +1,6 @@
 // The table of kinds, and the limits of their numbers.
+#![tactic(auto)]
+
 ghost use Rattle.std.specs.Prelude.{◌≡◌, ◌-◌, ◌*◌, ◌≤◌, ◌<◌};
 ghost use Rattle.kinds.specs.Kinds.{limits, alone, of_places, exactly, within, table, fits};
 

@@ -1,4 +1,6 @@
 // The matrix A = [A' | I]: m rows, n columns, a the entries of A' row by row.
+#![tactic(auto)]
+
 ghost use Rattle.std.specs.Prelude.{◌≡◌, ◌+◌, ◌-◌, ◌*◌, ◌≤◌, ◌<◌, length, take};
 ghost use Rattle.algebra.specs.Lists.{over, stretch, first_from};
 ghost use Rattle.algebra.specs.Residues.{modulus};

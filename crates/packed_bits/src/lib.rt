@@ -1,4 +1,6 @@
 // Packed bits: the highest bit of a byte first.
+#![tactic(auto)]
+
 ghost use Rattle.std.specs.Prelude.{◌≡◌, ◌/◌, ◌≤◌, ◌<◌, length, take};
 ghost use Rattle.algebra.specs.Lists.{over, offsets};
 ghost use Rattle.packed_bits.specs.PackedBits.{bit_at, unused_clear};

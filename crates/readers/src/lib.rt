@@ -1,4 +1,6 @@
 // The eight readers, one for each kind of frame; the opening of a named round; and the choices of a card.
+#![tactic(auto)]
+
 ghost use Rattle.frames.specs.Reading.{Reads};
 ghost use Rattle.kinds.specs.Kinds.{alone};
 

@@ -1,4 +1,6 @@
 // The session record as 68 bytes, for programs that keep it as such.
+#![tactic(auto)]
+
 ghost use Rattle.std.specs.Prelude.{◌≡◌, length};
 
 use algebra::output::{copy_at, copy_into};

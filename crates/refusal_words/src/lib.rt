@@ -1,4 +1,6 @@
 // A refusal as one line for a person: document 01's name, number, buffer and place, and a sentence.
+#![tactic(auto)]
+
 use crate::name::say_refusal_name;
 use crate::reason::say_reason;
 use algebra::wide;

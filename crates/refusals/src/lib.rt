@@ -1,4 +1,6 @@
 // The refusal that every call of the sign-on shares, and the answer of a check.
+#![tactic(auto)]
+
 ghost use Rattle.std.specs.Prelude.{◌≡◌};
 ghost use Rattle.refusals.specs.Told.{refused, means};
 

@@ -1,4 +1,6 @@
 // The verdict program's input: a grade byte and the frames end to end, cut by their counts.
+#![tactic(auto)]
+
 ghost use Rattle.std.specs.Prelude.{◌≡◌, get_or, drop};
 ghost use Rattle.register_input.specs.Cutting.{front, behind, Ends, judging_input};
 ghost use Rattle.register_rules.specs.Verdict.{verdict_means};

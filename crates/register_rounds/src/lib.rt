@@ -1,4 +1,6 @@
 // The verdict of the rounds: all pass, or the first that does not is refused by its bit.
+#![tactic(auto)]
+
 ghost use Rattle.std.specs.Prelude.{◌≡◌};
 ghost use Rattle.register_rules.specs.Verdict.{sign_on, SignOnFits, rounds_passed, number_of, rounds_check, verdict_means};
 

@@ -1,5 +1,7 @@
 // Runs the cases of standard input over the sign-on's calls and prints what came of each. The model of tests/model writes the cases and
 // what is to be printed, and says how both are spelt.
+#![tactic(auto)]
+
 ghost use Rattle.io.specs.Counts.{IsPrefixLen};
 
 use crate::replay::replay;

@@ -1,4 +1,6 @@
 // The calls of the card and of the register by their numbers in a case, each with its line.
+#![tactic(auto)]
+
 use card::answer::answer_step;
 use card::begin::begin_step;
 use card::give_up::give_up_step;

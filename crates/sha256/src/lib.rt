@@ -1,4 +1,6 @@
 // SHA-256 (FIPS 180-4): the hash under every commitment.
+#![tactic(auto)]
+
 ghost use Rattle.sha256.specs.Call.{Hashes};
 
 use refusals::Checked;

@@ -1,4 +1,6 @@
 // The hash call with its message absorbed in pieces, for the vectors and the benchmark: however it is cut, the contract is the call's own.
+#![tactic(auto)]
+
 ghost use Rattle.std.specs.Prelude.{◌≡◌, ◌<◌, ◌≤◌, length};
 ghost use Rattle.sha256.specs.Call.{LONGEST, Hashes, shown_of, told_of};
 ghost use Rattle.sha256.specs.Standard.{digest_of};

@@ -1,5 +1,7 @@
 // Prints the digests of many messages, a line each: the length, the answer of the hash call, the digest in hex, and whether every cut of the message into pieces gives the same.
 // tests/sha256_vectors.py makes the same lines by an independent hash.
+#![tactic(auto)]
+
 ghost use Rattle.std.specs.Prelude.{◌≡◌, ◌≤◌, length};
 
 use refusals::Checked;

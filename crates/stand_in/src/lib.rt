@@ -1,4 +1,6 @@
 // The stand-in: a round that passes, made with no key, of a challenge and a bit that are known beforehand.
+#![tactic(auto)]
+
 ghost use Rattle.std.specs.Prelude.{◌≡◌};
 ghost use Rattle.refusals.specs.Told.{means};
 ghost use Rattle.stand_in.specs.Standing.{lent_check, StandsIn};

@@ -1,4 +1,6 @@
 // The bytes of the round that the stand-in makes: commitment, W and permutation.
+#![tactic(auto)]
+
 ghost use Rattle.std.specs.Prelude.{◌≡◌, ◌+◌, ◌≤◌, ◌<◌, length};
 ghost use Rattle.algebra.specs.Lists.{over, over_at};
 ghost use Rattle.algebra.specs.Residues.{modulus};

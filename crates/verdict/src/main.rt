@@ -1,4 +1,6 @@
 // The verdict program: reads a grade byte and the frames of kinds 1, 2 and 4 to 8 end to end, and prints the verdict as one line.
+#![tactic(auto)]
+
 use crate::tell::tell;
 use libc::STDIN_FILENO;
 use register_input::judge;

@@ -1,4 +1,6 @@
 // Operations on words of 32 bits: FIPS 180-4, sections 3.1 and 3.2, and the six functions of section 4.1.2.
+#![tactic(auto)]
+
 ghost use Rattle.std.specs.Prelude.{◌≡◌, ◌+◌, ◌<◌, ◌≤◌, length};
 ghost use Rattle.word32.specs.Operations.{word_at, ◌⊞◌, ROTR, Ch, Maj, Σ0, Σ1, σ0, σ1};
 

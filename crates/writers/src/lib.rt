@@ -1,4 +1,6 @@
 // Writers: the numbers, the plain buffer that holds the rest of the body, then ROOM.
+#![tactic(auto)]
+
 ghost use Rattle.std.specs.Prelude.{◌≡◌, ◌+◌, ◌-◌, ◌≤◌, ◌<◌, length};
 ghost use Rattle.refusals.specs.Told.{means};
 ghost use Rattle.algebra.specs.Lists.{over};

@@ -1,0 +1,6 @@
+-- `compose_into` meets its contract: the product στ is σ_τ.
+use borrow.Author.Rules.{rules}
+use Rattle.algebra.proofs.permutation.compose_into.Goals as goal
+
+pub returns : goal.returns
+returns c = c.permute_into.ensures
