@@ -7,7 +7,7 @@ pub mod steps;
 // What a call answers in C: a success has number 0, buffer 0 and its value as its place (0 where it has none), a refusal its number,
 // buffer and place.
 #[repr(C)]
-#[derive(Drop)]
+#[derive(Clone, Copy)]
 pub struct Answer {
     pub number: u8,
     pub buffer: u8,

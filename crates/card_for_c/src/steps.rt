@@ -11,7 +11,7 @@ use card::open::open_step;
 use card_rules::session::Session;
 
 // What a step answers in C, and the next record.
-#[derive(Drop)]
+#[derive(Clone, Copy)]
 pub struct Stepped {
     pub told: Answer,
     pub next: Session,

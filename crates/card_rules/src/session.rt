@@ -8,7 +8,7 @@ use kinds::{MOST_ROUNDS, alone, within};
 
 // What the host keeps of a sign-on between the card's calls. Any bytes are a record.
 #[repr(C)]
-#[derive(Drop)]
+#[derive(Clone, Copy)]
 pub struct Session {
     pub stage: u8,
     pub n: u8,

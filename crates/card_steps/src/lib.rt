@@ -5,7 +5,7 @@ use card_rules::session::Session;
 use writers::Written;
 
 // What a step answers; the record as it was where it refuses.
-#[derive(Drop)]
+#[derive(Clone, Copy)]
 pub struct Step {
     pub told: Written,
     pub next: Session,

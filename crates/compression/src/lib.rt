@@ -10,7 +10,7 @@ use word32::{big_sigma_0, big_sigma_1, ch, maj, plus, small_sigma_0, small_sigma
 pub mod constants;
 
 // The eight words of a hash value, or the eight working variables.
-#[derive(Drop)]
+#[derive(Clone, Copy)]
 pub struct Words {
     pub a: u32,
     pub b: u32,

@@ -1,7 +1,7 @@
 // The commands by their names.
 use desk_files::argument::is_word;
 
-#[derive(Drop)]
+#[derive(Clone, Copy)]
 pub enum Command {
     System,
     Key,

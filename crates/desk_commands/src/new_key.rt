@@ -25,7 +25,7 @@ const TRY: usize = 256;
 const TRIES_MOST: usize = 100000;
 
 // What came of the last try, and how many there were.
-#[derive(Drop)]
+#[derive(Clone, Copy)]
 struct Made {
     told: Taken,
     tries: usize,

@@ -7,7 +7,7 @@ use check::same;
 use hosting::text::say;
 
 // What a text says as a number.
-#[derive(Drop)]
+#[derive(Clone, Copy)]
 pub enum Parsed {
     Is(usize),
     Isnt,

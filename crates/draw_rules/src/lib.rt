@@ -4,7 +4,7 @@
 use refusals::Refusal;
 
 // What a drawing answers: the random bytes used, skipped ones counted.
-#[derive(Drop)]
+#[derive(Clone, Copy)]
 pub enum Taken {
     Bytes(usize),
     Refused(Refusal),

@@ -16,7 +16,7 @@ use refusals::number::{KIND, LONG, SHAPE, SHORT, VERSION};
 use refusals::{Checked, Refusal, refuse};
 
 // What a reader answers: the numbers (the second is 0 where a kind has one) and where the rest of the body starts.
-#[derive(Drop)]
+#[derive(Clone, Copy)]
 pub enum Read {
     Frame(usize, usize, usize),
     Refused(Refusal),

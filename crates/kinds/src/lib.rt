@@ -7,7 +7,7 @@ ghost use Rattle.kinds.specs.Kinds.{limits, alone, of_places, exactly, within, t
 use algebra::LONGEST;
 use refusals::buffer::{ANSWERS, BITS, CHALLENGES, COMMITMENTS, OPENINGS, PUBLIC, SECRET, SYSTEM};
 
-#[derive(Drop)]
+#[derive(Clone, Copy)]
 pub enum Kind {
     System,
     Public,
@@ -36,14 +36,14 @@ pub const MOST_ROUNDS: usize = 64;
 pub const PAIR: usize = 64;
 
 // A number is fine from the least to the greatest.
-#[derive(Drop)]
+#[derive(Clone, Copy)]
 pub struct Limits {
     pub least: usize,
     pub greatest: usize,
 }
 
 // What is asked of n and of N.
-#[derive(Drop)]
+#[derive(Clone, Copy)]
 pub struct Expected {
     pub places: Limits,
     pub rounds: Limits,

@@ -205,9 +205,9 @@ module _ (limit : ℕ) (random : List ℕ) (p : ℕ) where
   unfolding one_below
   one_short e = rw (← e)
 
-  one_below : Always (λ (l : List ℕ). (length l ≡ 1) × (get_or l 0 0 < limit)) (one_below limit random p)
+  one_below_lem : Always (λ (l : List ℕ). (length l ≡ 1) × (get_or l 0 0 < limit)) (one_below limit random p)
   unfolding one_below
-  one_below = step (draw_below limit random p) (drawn-below limit random p)
+  one_below_lem = step (draw_below limit random p) (drawn-below limit random p)
     where
       step : (d : Drawn) → ((x q : ℕ) → Got x q ≡ d → x < limit)
           → Always (λ (l : List ℕ). (length l ≡ 1) × (get_or l 0 0 < limit)) (with d (λ (x next : ℕ). drew (x ∷ []) next))
@@ -220,7 +220,7 @@ module _ (limit : ℕ) (random : List ℕ) where
   small l = get_or l 0 0 < limit
 
   pub some_below_lem : (n at : ℕ) → Always (λ (l : List ℕ). (length l ≡ n) × Residues limit l) (some_below limit n random at)
-  some_below_lem n at = turn (some_below limit n random at) (times-each small 1 (one_below limit random) (one_below limit random) n at)
+  some_below_lem n at = turn (some_below limit n random at) (times-each small 1 (one_below limit random) (one_below_lem limit random) n at)
     where
       turn : (d : Drawing) → Always (Stretches small 1 n) d → Always (λ (l : List ℕ). (length l ≡ n) × Residues limit l) d
       turn (drew l q) s = (

@@ -5,14 +5,14 @@ ghost use Rattle.algebra.specs.Permutations.{longest, identity};
 ghost use Rattle.random.specs.Drawings.{largest_multiple, draw_below, shuffle, draw_permutation, used_by, drawn_over, Enough};
 
 // What the drawing of a byte answers: the byte and the next place, or that the bytes ran out.
-#[derive(Drop)]
+#[derive(Clone, Copy)]
 pub enum Drawn {
     Got(u8, usize),
     RanOut,
 }
 
 // What a drawing of several answers: the next place, or that the bytes ran out.
-#[derive(Drop)]
+#[derive(Clone, Copy)]
 pub enum Used {
     To(usize),
     RanOut,

@@ -8,7 +8,7 @@ pub mod buffer;
 pub mod number;
 
 // Why a call is refused: document 01's number, the buffer at fault, and the place in it, which may be a length.
-#[derive(Drop)]
+#[derive(Clone, Copy)]
 pub struct Refusal {
     pub number: u8,
     pub buffer: u8,
@@ -16,7 +16,7 @@ pub struct Refusal {
 }
 
 // What a check answers.
-#[derive(Drop)]
+#[derive(Clone, Copy)]
 pub enum Checked {
     Fine,
     Refused(Refusal),

@@ -4,7 +4,7 @@
 use refusals::Refusal;
 
 // What the register answers: the rounds of an accepted sign-on, or why it is refused.
-#[derive(Drop)]
+#[derive(Clone, Copy)]
 pub enum Verdict {
     Accepted(usize),
     Refused(Refusal),

@@ -17,7 +17,7 @@ pub const DIGEST: usize = 32;
 pub const LONGEST: usize = 65535;
 
 // What the hash call answers, and the digest beside it: 32 zeros where it is refused.
-#[derive(Drop)]
+#[derive(Clone, Copy)]
 pub struct Hashed {
     pub answer: Checked,
     pub digest: [u8; DIGEST],

@@ -9,7 +9,7 @@ use compression::constants::initial;
 use compression::{Words, compress};
 
 // What has been absorbed: the hash value of the whole blocks, the bytes since, at the front of the buffer, and the count of all bytes.
-#[derive(Drop)]
+#[derive(Clone, Copy)]
 pub struct Stream {
     pub words: Words,
     pub buffer: [u8; 64],

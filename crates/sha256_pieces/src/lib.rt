@@ -42,7 +42,7 @@ pub fn in_pieces(message: &[u8], size: usize) -> Hashed
 
 // A digest as C takes it.
 #[repr(C)]
-#[derive(Drop)]
+#[derive(Clone, Copy)]
 pub struct Digest {
     pub bytes: [u8; DIGEST],
 }

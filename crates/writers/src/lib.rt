@@ -15,7 +15,7 @@ use refusals::number::{ROOM, SHAPE};
 use refusals::{Checked, Refusal, refuse};
 
 // What a writer answers: the bytes written.
-#[derive(Drop)]
+#[derive(Clone, Copy)]
 pub enum Written {
     Wrote(usize),
     Refused(Refusal),
