@@ -1,0 +1,82 @@
+-- `read_frame` meets its contract: three checks in a row, and what a check that passed says is what the next one asks.
+-- past the header
+use mathlib.Core.Path.{sym, ap, ap₂, ◌∙◌}
+use mathlib.Core.List.{[], ◌∷◌}
+use native.Mathlib.Omega.{arith}
+use borrow.Author.Rules.{rules}
+use lib.ListN.{length, length-drop}
+use Rattle.refusals.specs.Told.{done, means}
+use Rattle.refusals.proofs.Chain.{goes_on, stops, demand_done}
+use Rattle.kinds.specs.Kinds.{table}
+use Rattle.frames.specs.Reading.{first_of, second_of, reading}
+use Rattle.frames.proofs.Facts.{Headed, header-told, first_modest, Shaped, shape-told, rest-length, start_five}
+use Rattle.frames.proofs.Orders.{rest_part, content-read, numbers-read}
+use Rattle.frames.proofs.read.read_frame.Goals as goal
+
+pub returns-in-Refused : goal.returns-in-Refused
+unfolding reading
+returns-in-Refused c = record { says = stops _ c.check_header.ensures c.in-Refused.is }
+
+pub check_shape-requires : goal.check_shape-requires
+check_shape-requires c = let w = ((header-told _ _ [] (sym c.check_header.ensures ∙ ap means c.in_default.is))).whole in
+    let k = c.type_inv.s in
+    omega (arith, k 0, k 1)
+
+pub returns-in-Refused-check_shape : goal.returns-in-Refused-check_shape
+unfolding reading
+returns-in-Refused-check_shape c = record {
+      says = goes_on c.check_header.ensures c.in_default.is
+          (stops _ c.check_shape.ensures c.in-Refused-check_shape.is);
+    }
+
+pub bounds-s-4 : goal.bounds-s-4
+bounds-s-4 c = let h = ((shape-told _ _ _ (demand_done _ _ _ _ [] (sym c.check_shape.ensures ∙ ap means c.in_default-check_shape.is)))).there in let f = start_five c.args.kind in omega arith
+
+pub second_of-second-requires : goal.second_of-second-requires
+second_of-second-requires c = ((shape-told _ _ _ (demand_done _ _ _ _ [] (sym c.check_shape.ensures ∙ ap means c.in_default-check_shape.is)))).there
+
+pub slice_bounds-check_content-count : goal.slice_bounds-check_content-count
+slice_bounds-check_content-count c = let h = ((shape-told _ _ _ (demand_done _ _ _ _ [] (sym c.check_shape.ensures ∙ ap means c.in_default-check_shape.is)))).there in omega (arith, c.start_of-start.ensures.0)
+
+pub slice_bounds-check_content-start : goal.slice_bounds-check_content-start
+slice_bounds-check_content-start c = let h = ((shape-told _ _ _ (demand_done _ _ _ _ [] (sym c.check_shape.ensures ∙ ap means c.in_default-check_shape.is)))).there in omega (arith, c.start_of-start.ensures.0)
+
+pub check_content-requires : goal.check_content-requires
+check_content-requires c = let s = c.args.s.now in
+    let h = (shape-told _ _ _ (demand_done _ _ _ _ [] (sym c.check_shape.ensures ∙ ap means c.in_default-check_shape.is))) in
+    let w = h.whole in
+    let a = c.wide-first.ensures.0 in
+    let p = c.start_of-start.ensures.0 in
+    let n = rest_part c.args.kind s _ p in
+    let z = ap length n ∙ rest-length c.args.kind c.args.expected s h ∙ sym (ap₂ (table c.args.kind).size a c.second_of-second.ensures.0) in
+    let e = ap length n in
+    let m = ((header-told _ _ [] (sym c.check_header.ensures ∙ ap means c.in_default.is))).whole in
+    let k = c.type_inv.s in (
+      rw a (first_modest c.args.kind c.args.expected _ _ c.requires h.numbers),
+      z,
+      omega (arith, k 0, k 1, length-drop (table c.args.kind).start s),
+    )
+
+pub returns-in-Refused-check_content : goal.returns-in-Refused-check_content
+unfolding reading
+returns-in-Refused-check_content c = let k = c.args.kind in
+    let s = c.args.s.now in
+    record {
+      says = goes_on c.check_header.ensures c.in_default.is
+          (goes_on c.check_shape.ensures c.in_default-check_shape.is
+          (stops (done (first_of s ∷ second_of k s ∷ (table k).start ∷ [])) (c.check_content.ensures ∙ content-read k s _ _ _ c.wide-first.ensures.0 c.second_of-second.ensures.0 c.start_of-start.ensures.0)
+          c.in-Refused-check_content.is));
+    }
+
+pub returns : goal.returns
+unfolding reading
+returns c = let k = c.args.kind in
+    let s = c.args.s.now in
+    let p = c.wide-first.ensures.0 in
+    let q = c.second_of-second.ensures.0 in
+    let r = c.start_of-start.ensures.0 in
+    record {
+      says = goes_on c.check_header.ensures c.in_default.is
+          (goes_on c.check_shape.ensures c.in_default-check_shape.is
+          (goes_on (c.check_content.ensures ∙ content-read k s _ _ _ p q r) c.in_default-check_content.is (numbers-read k s _ _ _ p q r)));
+    }

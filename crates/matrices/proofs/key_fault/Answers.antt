@@ -1,0 +1,6 @@
+-- `key_fault` meets its contract: a room of 64 holds V_π.
+use borrow.Author.Rules.{rules}
+use Rattle.matrices.proofs.key_fault.Goals as goal
+
+pub returns : goal.returns
+returns c = c.key_fault_with.ensures

@@ -1,0 +1,15 @@
+-- `product_into` meets its contract: A X is the table of its rows, written one a turn.
+use mathlib.Core.Path.{refl}
+use Prim.Native.Nat.{ℕ, ◌-◌, ◌≤◌}
+use native.Mathlib.Omega.{arith}
+use borrow.Author.Rules.{rules}
+use Rattle.matrices.specs.Matrices.{row_times, row_of, product}
+use Rattle.algebra.specs.Residues.{modulus}
+use Rattle.algebra.proofs.Lists.{stretch-fits, Tabulated, tabulated_none, tabulated_more, tabulated_all}
+use Rattle.matrices.proofs.product_into.Given as goal
+
+abbrev pub invariant-loop-i : goal.invariant-loop-i
+invariant-loop-i l = (l.i ≤ l.m) × Tabulated (λ (k : ℕ). row_times modulus (row_of l.a l.n l.m k) l.x k) l.initial.out l.out l.i
+
+abbrev pub decreases-loop-i : goal.decreases-loop-i
+decreases-loop-i l = l.m - l.i

@@ -1,0 +1,26 @@
+-- `bytes_of` lays each word's bytes after those of the words before it: after i words the first 4 i bytes are those words'.
+use mathlib.Core.List.{[], ◌∷◌}
+use mathlib.Core.Path.{◌≡◌, refl, sym, ◌∙◌}
+use Prim.Native.Nat.{◌-◌, ◌*◌, ◌≤◌}
+use native.Mathlib.Omega.{arith}
+use borrow.Author.Rules.{rules}
+use lib.ListN.{length, take}
+use lib.Seq.{take_all}
+use Rattle.sha256.proofs.Laid.{words_more}
+use Rattle.sha256.specs.Standard.{bytes_of, bytes_of_words}
+use Rattle.sha256.proofs.bytes.bytes_of.Goals as goal
+
+pub loop-i-init : goal.loop-i-init
+unfolding bytes_of_words
+loop-i-init c = (omega arith, refl, refl)
+
+pub loop-i-preserved : goal.loop-i-preserved
+loop-i-preserved c = let b = c.bytes_of_word-bytes in
+    let v = c.args.v in
+    let words = v.a ∷ v.b ∷ v.c ∷ v.d ∷ v.e ∷ v.f ∷ v.g ∷ v.h ∷ [] in
+    (omega arith, c.lay.auto.buffer ∙ c.loop-i.invariant.1, rw c.lay.ensures (words_more words c.loop-i.out b.result c.loop-i.i (omega arith) (omega arith) c.loop-i.invariant.2 b.ensures))
+
+pub returns : goal.returns
+unfolding bytes_of
+returns c = let e : c.loop-i.i ≡ 8 = omega arith in
+    sym (take_all 32 c.loop-i.out (omega arith)) ∙ (rw e at c.loop-i.invariant.2)
