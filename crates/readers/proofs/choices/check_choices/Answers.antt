@@ -1,0 +1,68 @@
+-- `check_choices` meets its contract: no round before the k-th is refused, and that one starts at k·2n.
+use mathlib.Core.Path.{◌≡◌, sym, ap, ap₂, ◌∙◌}
+use Prim.Native.Nat.{◌-◌, ◌*◌, ◌≤◌}
+use native.Mathlib.Nat.{zero-mul, suc-mul}
+use native.Mathlib.Numerals.{add-one}
+use native.Mathlib.Omega.{arith}
+use borrow.Author.Rules.{rules}
+use borrow.Author.Tests.{eq-eqb, ne_eqb}
+use lib.ListN.{length}
+use Rattle.refusals.specs.Told.{fine, means, first_below}
+use Rattle.refusals.proofs.Chain.{below_none, below_more, below-stops}
+use Rattle.algebra.proofs.Lists.{length-stretch, from-stretch, stretch-fits}
+use Rattle.algebra.proofs.Sums.{byte_mul}
+use Rattle.readers.specs.Choosing.{choice_size, choice_check, choice_at, choices_check}
+use Rattle.readers.proofs.choices.check_choices.Goals as goal
+
+pub overflow_mul-rounds : goal.overflow_mul-rounds
+overflow_mul-rounds c = let g = c.args in omega (arith, byte_mul g.rounds (choice_size g.n) (omega arith) (omega arith))
+
+pub returns-then-choices-rounds : goal.returns-then-choices-rounds
+unfolding choices_check
+returns-then-choices-rounds c = rw (ne_eqb _ _ c.if-choices-rounds.true) c.refuse.ensures
+
+pub loop-k-init : goal.loop-k-init
+loop-k-init c = (search rules, sym (zero-mul _), below_none _)
+
+pub overflow_add-to : goal.overflow_add-to
+overflow_add-to c = let g = c.args in let f = stretch-fits (choice_size g.n) _ _ c.loop-k-test.true in omega (arith, byte_mul g.rounds (choice_size g.n) (omega arith) (omega arith))
+
+pub slice_bounds-check_choice-end : goal.slice_bounds-check_choice-end
+slice_bounds-check_choice-end c = let g = c.args in let f = stretch-fits (choice_size g.n) _ _ c.loop-k-test.true in omega arith
+
+pub check_choice-requires : goal.check_choice-requires
+check_choice-requires c = let g = c.args in
+    let l = c.loop-k in
+    let f = stretch-fits (choice_size g.n) _ _ c.loop-k-test.true in
+    let m = byte_mul g.rounds (choice_size g.n) (omega arith) (omega arith) in
+    let e = c.if-choices-rounds.false in (
+      search rules,
+      ap length (from-stretch (choice_size g.n) l.k l.from g.choices.now l.invariant.1) ∙ length-stretch (choice_size g.n) l.k g.choices.now (omega arith),
+      omega arith,
+    )
+
+pub returns-in-Refused : goal.returns-in-Refused
+unfolding choices_check
+returns-in-Refused c = let g = c.args in
+    let l = c.loop-k in
+    rw (eq-eqb _ _ c.if-choices-rounds.false)
+    (below-stops (choice_at g.n g.choices.now) _ l.invariant.2 _ c.loop-k-test.true
+    (sym (ap₂ (choice_check g.n) l.invariant.1 (from-stretch (choice_size g.n) l.k l.from g.choices.now l.invariant.1))
+    ∙ sym c.check_choice.ensures ∙ ap means c.in-Refused.is))
+
+pub loop-k-preserved : goal.loop-k-preserved
+loop-k-preserved c = let g = c.args in
+    let l = c.loop-k in
+    let s = suc-mul l.k (choice_size g.n) in (
+      search rules,
+      rw add-one (omega arith),
+      below_more (choice_at g.n g.choices.now) _ l.invariant.2
+          (sym (ap₂ (choice_check g.n) l.invariant.1 (from-stretch (choice_size g.n) l.k l.from g.choices.now l.invariant.1))
+          ∙ sym c.check_choice.ensures ∙ ap means c.in_default.is),
+    )
+
+pub returns : goal.returns
+unfolding choices_check
+returns c = let l = c.loop-k in
+    let e : l.k ≡ c.args.rounds = omega arith in
+    rw (eq-eqb _ _ c.if-choices-rounds.false) (sym (rw e at l.invariant.2))
