@@ -1,0 +1,20 @@
+-- `check_key` meets its contract: the frames, then KEY.
+use mathlib.Core.Path.{sym, ap, ◌∙◌}
+use mathlib.Core.List.{[]}
+use borrow.Author.Rules.{rules}
+use Rattle.card_rules.proofs.Facts.{keys-told}
+use Rattle.card_rules.specs.Keys.{key_check}
+use Rattle.refusals.proofs.Chain.{goes_on, stops}
+use Rattle.refusals.specs.Told.{means}
+use Rattle.card_checks.proofs.key.check_key.Goals as goal
+
+pub returns-in-Refused : goal.returns-in-Refused
+unfolding key_check
+returns-in-Refused c = record { says = stops _ c.check_keys.ensures c.in-Refused.is }
+
+pub check_valid-requires : goal.check_valid-requires
+check_valid-requires c = keys-told _ [] (sym c.check_keys.ensures ∙ ap means c.in_default.is)
+
+pub returns : goal.returns
+unfolding key_check
+returns c = record { says = goes_on c.check_keys.ensures c.in_default.is c.check_valid.ensures }

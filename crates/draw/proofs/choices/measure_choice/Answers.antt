@@ -1,0 +1,19 @@
+-- `measure_choice` meets its contract: R, and from the place after it σ.
+use mathlib.Core.Path.{sym, ◌∙◌}
+use borrow.Author.Rules.{rules}
+use Rattle.random.specs.Drawings.{draw_permutation}
+use Rattle.draw_rules.specs.Making.{draw_choice}
+use Rattle.random.specs.Sequences.{draw_residues}
+use Rattle.random.proofs.Sequences.{then_used, then_short}
+use Rattle.draw.proofs.choices.measure_choice.Goals as goal
+
+pub returns-in-RanOut : goal.returns-in-RanOut
+unfolding draw_choice
+returns-in-RanOut c = let g = c.args in
+    then_short (draw_residues g.n g.random.now g.at) (draw_permutation g.n g.random.now) (sym c.in-RanOut.is ∙ c.measure_below.ensures)
+
+pub returns-in-To : goal.returns-in-To
+unfolding draw_choice
+returns-in-To c = let g = c.args in
+    c.measure_permutation.ensures
+    ∙ then_used (draw_residues g.n g.random.now g.at) (draw_permutation g.n g.random.now) _ (sym c.in-To.is ∙ c.measure_below.ensures)

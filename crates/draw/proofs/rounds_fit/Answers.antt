@@ -1,0 +1,6 @@
+-- `rounds_fit` meets its contract: the limits are those of a frame alone.
+use borrow.Author.Rules.{rules}
+use Rattle.draw.proofs.rounds_fit.Goals as goal
+
+pub returns : goal.returns
+returns c = rw c.alone.ensures at c.within.ensures
