@@ -1,0 +1,20 @@
+-- `measure_pair` meets its contract: π, and from the place after it the start of X.
+use mathlib.Core.Path.{sym, ◌∙◌}
+use Prim.Native.Nat.{◌-◌}
+use borrow.Author.Rules.{rules}
+use Rattle.random.specs.Drawings.{draw_permutation}
+use Rattle.key_making.specs.Key.{draw_pair}
+use Rattle.random.specs.Sequences.{draw_residues}
+use Rattle.random.proofs.Sequences.{then_used, then_short}
+use Rattle.key_making.proofs.measure_pair.Goals as goal
+
+pub returns-in-RanOut : goal.returns-in-RanOut
+unfolding draw_pair
+returns-in-RanOut c = let g = c.args in
+    then_short (draw_permutation g.n g.random.now 0) (draw_residues (g.n - g.m) g.random.now) (sym c.in-RanOut.is ∙ c.measure_permutation.ensures)
+
+pub returns-in-To : goal.returns-in-To
+unfolding draw_pair
+returns-in-To c = let g = c.args in
+    c.measure_below.ensures
+    ∙ then_used (draw_permutation g.n g.random.now 0) (draw_residues (g.n - g.m) g.random.now) _ (sym c.in-To.is ∙ c.measure_permutation.ensures)
