@@ -74,9 +74,10 @@ def functions_missing(text):
 
 
 def files_missing(folder, text):
-    """A file is named from the repository's root, or from the folder of the document; NAME stands for any crate."""
+    """A file is named from the repository's root, or from the folder of the document; NAME stands for any crate, and rt makes what is in out/."""
     for path in re.findall(r"(?<![\w/.-])(?:bench|bindings|crates|docs|tests|tools)/[\w./-]*\w", text):
-        if "NAME" not in path and not (ROOT / path).exists() and not (folder / path).exists():
+        kept = path.partition("/out/")[0]
+        if "NAME" not in path and not (ROOT / kept).exists() and not (folder / kept).exists():
             yield f"no {path}"
 
 
