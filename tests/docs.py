@@ -21,6 +21,8 @@ ROOT = Path(__file__).resolve().parents[1]
 READING = ROOT / "docs" / "READING.md"
 WRONG_PROGRAMS = ROOT / "docs" / "WRONG_PROGRAMS.md"
 HEADER = ROOT / "bindings" / "c" / "signon.h"
+CODE = "*/src/**/*.rt"
+PROOFS = "*/specs/**/*.antt", "*/proofs/**/*.antt"
 CALLS = ["hash", "readers", "named round", "writers", "draw permutation", "draw challenges", "draw bits", "draw choices", "make key", "key check"]
 CALLS += ["begin", "answer", "open", "give up", "stand-in", "verdict", "program's input", "C functions"]
 """The public calls by the names that docs/WRONG_PROGRAMS.md has for them."""
@@ -38,9 +40,9 @@ def read(path):
     return path.read_text(encoding="utf-8")
 
 
-def of_crates(pattern):
-    """The files of the crates, but for those that rt makes in out/."""
-    return [path for path in sorted(ROOT.glob(f"crates/{pattern}")) if path.relative_to(ROOT).parts[2] != "out"]
+def of_crates(*patterns):
+    """The files of the crates; what rt makes lies in out/, which no pattern names."""
+    return sorted(path for pattern in patterns for path in ROOT.glob(f"crates/{pattern}"))
 
 
 def listed(names):
@@ -88,9 +90,9 @@ def defined(proof):
 
 def known_names():
     """What proofs define, what stands in code and in the C header, the crates and the must-fail edits."""
-    names = {name for path in of_crates("*/*/**/*.antt") for name in defined(read(path))}
+    names = {name for path in of_crates(*PROOFS) for name in defined(read(path))}
     names |= {path.name for path in ROOT.glob("crates/*")} | {path.stem for path in of_crates("*/must-fail/*.edit")}
-    for path in [*of_crates("*/src/**/*.rt"), HEADER]:
+    for path in [*of_crates(CODE), HEADER]:
         names |= set(re.findall(r"\w+(?:-\w+)*", re.sub(r"//.*", "", read(path))))
     return names
 
@@ -113,9 +115,8 @@ def said_by_hand(text):
 
 def documents():
     """The documents and their lines."""
-    for path in [ROOT / "README.md", *sorted(ROOT.glob("docs/*.md")), *sorted(ROOT.glob("*/**/README.md"))]:
-        if not {"target", "out"} & set(path.parts):
-            yield path.relative_to(ROOT), read(path).splitlines()
+    for path in [ROOT / "README.md", *sorted(ROOT.glob("docs/*.md")), *sorted(ROOT.glob("*/README.md")), *sorted(ROOT.glob("*/*/README.md"))]:
+        yield path.relative_to(ROOT), read(path).splitlines()
 
 
 def counts_wrong(line):
@@ -235,7 +236,7 @@ def code_elsewhere(crate, text):
 
 
 def faults_of_comments(known):
-    for path in [*of_crates("*/*/**/*.rt"), *of_crates("*/*/**/*.antt")]:
+    for path in [*of_crates(CODE), *of_crates(*PROOFS)]:
         place, text = path.relative_to(ROOT), read(path)
         crate, folder = place.parts[1:3]
         cited = {name for names in re.findall(r"^use .*\{(.*)\}$", text, re.MULTILINE) for name in names.split(", ")}

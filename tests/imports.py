@@ -15,6 +15,7 @@ from collections import Counter
 from pathlib import Path
 
 ROOT = Path(__file__).resolve().parents[1]
+FILES = "src/**/*.rt", "specs/**/*.antt", "proofs/**/*.antt"
 IMPORT_OF_CODE = re.compile(r"^ *(?:pub (?:ghost )?use [^;]*;\n|((?:ghost )?use [^;]*);\n)", re.MULTILINE)
 IMPORT_OF_PROOF = re.compile(r"^(?:pub use [^{\n]*(?:\{[^}]*\})?.*\n|(use [^{\n]*(?:\{[^}]*\})?.*)\n)", re.MULTILINE)
 """An import, over as many lines as it has."""
@@ -91,10 +92,9 @@ def groups(path, text):
 
 
 def faults():
-    for path in sorted(ROOT.glob("crates/*/*/**/*")):
-        if path.suffix in (".rt", ".antt") and path.relative_to(ROOT).parts[2] != "out":
-            for imports, words in groups(path, path.read_text(encoding="utf-8")):
-                yield from (f"{path.relative_to(ROOT)}: {fault}" for fault in unused(imports, words) + repeated(imports))
+    for path in sorted(path for part in FILES for path in ROOT.glob(f"crates/*/{part}")):
+        for imports, words in groups(path, path.read_text(encoding="utf-8")):
+            yield from (f"{path.relative_to(ROOT)}: {fault}" for fault in unused(imports, words) + repeated(imports))
 
 
 def main():
