@@ -3,7 +3,7 @@
 
     python3 tests/docs.py
 
-Docs and comments: every function with a path and every file that they name is there, and, but for the READMEs, every law whose name has a hyphen.
+Docs and comments: every function with a path and every file that they name is there, and, but for the READMEs, every other name of two words or more.
 docs/READING.md: it names every file of definitions, and its line counts are right.
 docs/WRONG_PROGRAMS.md: it has every must-fail edit and no other, those of code apart from those of definitions, and two or more for each public call.
 Comments: the crates and specs that they name are there, and what they say of where code and laws stand is so.
@@ -20,10 +20,13 @@ from pathlib import Path
 ROOT = Path(__file__).resolve().parents[1]
 READING = ROOT / "docs" / "READING.md"
 WRONG_PROGRAMS = ROOT / "docs" / "WRONG_PROGRAMS.md"
+HEADER = ROOT / "bindings" / "c" / "signon.h"
+CODE = "*/src/**/*.rt"
+PROOFS = "*/specs/**/*.antt", "*/proofs/**/*.antt"
 CALLS = ["hash", "readers", "named round", "writers", "draw permutation", "draw challenges", "draw bits", "draw choices", "make key", "key check"]
 CALLS += ["begin", "answer", "open", "give up", "stand-in", "verdict", "program's input", "C functions"]
 """The public calls by the names that docs/WRONG_PROGRAMS.md has for them."""
-NOT_COUNTED = re.compile(r"\s*$|use |ghost use ")
+NOT_COUNTED = re.compile(r"\s*$|(?:pub )?(?:ghost )?use ")
 """A line that READING's counts leave out: blank, or an import."""
 COMMENT = re.compile(r"\s*(?://|--) ?(.*)")
 """A line of a comment: what stands behind its mark."""
@@ -35,6 +38,11 @@ LIST = r"(?:`?\w+`?(?:, | and ))*`?\w+`?"
 
 def read(path):
     return path.read_text(encoding="utf-8")
+
+
+def of_crates(*patterns):
+    """The files of the crates; what rt makes lies in out/, which no pattern names."""
+    return sorted(path for pattern in patterns for path in ROOT.glob(f"crates/{pattern}"))
 
 
 def listed(names):
@@ -68,26 +76,32 @@ def functions_missing(text):
 
 
 def files_missing(folder, text):
-    """A file is named from the repository's root, or from the folder of the document; NAME stands for any crate."""
+    """A file is named from the repository's root, or from the folder of the document; NAME stands for any crate, and rt makes what is in out/."""
     for path in re.findall(r"(?<![\w/.-])(?:bench|bindings|crates|docs|tests|tools)/[\w./-]*\w", text):
-        if "NAME" not in path and not (ROOT / path).exists() and not (folder / path).exists():
+        kept = path.partition("/out/")[0]
+        if "NAME" not in path and not (ROOT / kept).exists() and not (folder / kept).exists():
             yield f"no {path}"
 
 
 def defined(proof):
     """The names that a proof defines."""
-    return set(re.findall(r"^\s*(?:unfoldable |abbrev )?(?:pub )?(?:record )?(\S+) [(:{]", proof, re.MULTILINE))
+    return set(re.findall(r"^\s*(?:unfoldable |abbrev )?(?:pub )?(?:record |data )?(\S+) [(:{]", proof, re.MULTILINE))
 
 
-def laws():
-    return {name for path in ROOT.glob("crates/*/*/**/*.antt") for name in defined(read(path))}
+def known_names():
+    """What proofs define, what stands in code and in the C header, the crates and the must-fail edits."""
+    names = {name for path in of_crates(*PROOFS) for name in defined(read(path))}
+    names |= {path.name for path in ROOT.glob("crates/*")} | {path.stem for path in of_crates("*/must-fail/*.edit")}
+    for path in [*of_crates(CODE), HEADER]:
+        names |= set(re.findall(r"\w+(?:-\w+)*", re.sub(r"//.*", "", read(path))))
+    return names
 
 
-def laws_missing(text, known):
-    """The names with a hyphen that no proof has."""
-    for name in re.findall(r"`([a-z0-9]+(?:-[a-z0-9]+)+[→←]?)`", text):
+def names_missing(text, known):
+    """The names of two words or more that are not known."""
+    for name in re.findall(r"`([a-z0-9]+(?:[-_][a-z0-9]+)+[→←]?)`", text):
         if name not in known:
-            yield f"no law `{name}`"
+            yield f"no `{name}`"
 
 
 def said_by_hand(text):
@@ -100,9 +114,9 @@ def said_by_hand(text):
 
 
 def documents():
-    """The documents and their lines."""
-    for path in [ROOT / "README.md", *sorted(ROOT.glob("docs/*.md")), *sorted(ROOT.glob("*/**/README.md"))]:
-        if "target" not in path.parts:
+    """The documents and their lines, but for docs/PORT.md, which names what is gone."""
+    for path in [ROOT / "README.md", *sorted(ROOT.glob("docs/*.md")), *sorted(ROOT.glob("*/README.md")), *sorted(ROOT.glob("*/*/README.md"))]:
+        if path.name != "PORT.md":
             yield path.relative_to(ROOT), read(path).splitlines()
 
 
@@ -113,7 +127,7 @@ def counts_wrong(line):
         name, file, lines = row.groups()
         text = read(ROOT / file)
         if name:
-            text = re.search(rf"^(?:abbrev )?pub (?:record )?{name} .*?(?=\n\n|\Z)|\Z", text, re.MULTILINE | re.DOTALL)[0]
+            text = re.search(rf"^(?:abbrev )?pub (?:record |data )?{name} .*?(?=\n\n|\Z)|\Z", text, re.MULTILINE | re.DOTALL)[0]
         counted = sum(not NOT_COUNTED.match(one) for one in text.splitlines())
         if counted != int(lines):
             yield f"{name or file} has {counted} lines, not {lines}"
@@ -121,7 +135,7 @@ def counts_wrong(line):
 
 def specs_left_out(text):
     """The files of definitions that the text does not name."""
-    for path in sorted(ROOT.glob("crates/*/specs/*.antt")):
+    for path in of_crates("*/specs/*.antt"):
         name = str(path.relative_to(ROOT))
         if path.stem != "Lib" and name not in text:
             yield f"leaves out {name}"
@@ -138,7 +152,7 @@ def rows_of_edits(text):
 def edits_wrong(text):
     """The edits of the tables that are not there or in the wrong one, those that they leave out, and calls that they do not name or know."""
     in_tables = list(rows_of_edits(text))
-    kept = {(path.parts[-3], path.stem, folder) for path in ROOT.glob("crates/*/must-fail/*.edit") for folder in re.findall(r"^file: (\w+)/", read(path), re.MULTILINE)}
+    kept = {(path.parts[-3], path.stem, folder) for path in of_crates("*/must-fail/*.edit") for folder in re.findall(r"^file: (\w+)/", read(path), re.MULTILINE)}
     named = [(crate, edit, folder) for crate, edit, folder, _ in in_tables]
     yield from (f"no edit {crate} `{edit}` of {folder}/" for crate, edit, folder in sorted({*named} - kept))
     yield from (f"leaves out {crate} `{edit}` of {folder}/" for crate, edit, folder in sorted(kept - {*named}))
@@ -152,7 +166,7 @@ def faults_of_docs(known):
         for number, line in enumerate(lines, 1):
             found = [*functions_missing(line), *files_missing((ROOT / path).parent, line), *counts_wrong(line)]
             if path.parts[0] == "docs":
-                found += laws_missing(line, known)
+                found += names_missing(line, known)
             yield from (f"{path}:{number}: {fault}" for fault in found)
         yield from (f"{path}:{number}: {fault}" for number, text in passages(lines, WORDS) for fault in said_by_hand(text))
     yield from (f"docs/READING.md: {fault}" for fault in specs_left_out(read(READING)))
@@ -189,27 +203,27 @@ def specs_missing(text):
 def function_misnamed(path, text):
     """The comment that opens the proof of a function starts with its name, or with its whole path."""
     crate, function = path.parts[1], path.parts[3:-1]
-    if path.name == "Proof.antt" and not text.startswith((f"`{function[-1]}` ", f"`{'::'.join([crate, *function])}` ")):
+    if function and path.stem in ("Invariants", "Answers", "Proof") and not text.startswith((f"`{function[-1]}` ", f"`{'::'.join([crate, *function])}` ")):
         yield f"does not start with `{function[-1]}`"
 
 
 def promise_not_shown(text, names):
     """Where a proof says that no second outcome fits, or that a refused call changes nothing, it has or cites a law that says so."""
-    for said, start in (("no second outcome fits", "one-"), (r"a refused \w+ (?:changes nothing|leaves everything)", "refused-")):
-        if re.search(said, text, re.IGNORECASE) and not any(name.startswith(start) for name in names):
-            yield f"no law {start}.. here"
+    for said, start in (("no second outcome fits", "one"), (r"a refused \w+ (?:changes nothing|leaves everything)", "refused")):
+        if re.search(said, text, re.IGNORECASE) and not any(re.match(f"{start}[-_]", name) for name in names):
+            yield f"no law {start}_.. here"
 
 
 @cache
 def needs():
     """The crates of crates.txt, each with all that it needs."""
     rows = [line.partition(":") for line in read(ROOT / "crates.txt").splitlines() if not line.startswith("#")]
-    return {crate: set(needed.split()) for crate, _, needed in rows}
+    return {named.split()[0]: set(needed.split()) for named, _, needed in rows}
 
 
 def cites(user, crate):
     """Whether contracts of the user's code cite definitions of the crate."""
-    return any(f"Rattle·{crate}.specs." in read(path) for path in ROOT.glob(f"crates/{user}/src/**/*.rt"))
+    return any(f"Rattle.{crate}.specs." in read(path) for path in of_crates(f"{user}/src/**/*.rt"))
 
 
 def code_elsewhere(crate, text):
@@ -223,14 +237,14 @@ def code_elsewhere(crate, text):
 
 
 def faults_of_comments(known):
-    for path in [*sorted(ROOT.glob("crates/**/*.rt")), *sorted(ROOT.glob("crates/**/*.antt"))]:
+    for path in [*of_crates(CODE), *of_crates(*PROOFS)]:
         place, text = path.relative_to(ROOT), read(path)
         crate, folder = place.parts[1:3]
         cited = {name for names in re.findall(r"^use .*\{(.*)\}$", text, re.MULTILINE) for name in names.split(", ")}
         own = defined(text) | cited
         for number, comment in passages(text.splitlines(), COMMENT):
             found = [*functions_missing(comment), *files_missing(path.parent, comment), *own_files_missing(crate, comment)]
-            found += [*crates_missing(comment), *specs_missing(comment), *laws_missing(comment, known | own)]
+            found += [*crates_missing(comment), *specs_missing(comment), *names_missing(comment, known | own)]
             found += [*said_by_hand(comment), *code_elsewhere(crate, comment)]
             if folder == "proofs":
                 found += promise_not_shown(comment, own)
@@ -240,7 +254,7 @@ def faults_of_comments(known):
 
 
 def main():
-    known = laws()
+    known = known_names()
     found = [*faults_of_docs(known), *faults_of_comments(known)]
     print("\n".join(found) or "docs and comments name nothing that is not there")
     sys.exit(1 if found else 0)

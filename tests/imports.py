@@ -15,72 +15,85 @@ from collections import Counter
 from pathlib import Path
 
 ROOT = Path(__file__).resolve().parents[1]
-IMPORT = re.compile(r"(ghost )?use ")
-GHOST = re.compile(r"ghost ")
-CONTRACT = re.compile(r"\s*(requires|ensures)\b")
-"""A line of code that is written in the language of the proofs."""
+FILES = "src/**/*.rt", "specs/**/*.antt", "proofs/**/*.antt"
+IMPORT_OF_CODE = re.compile(r"^ *(?:pub (?:ghost )?use [^;]*;\n|((?:ghost )?use [^;]*);\n)", re.MULTILINE)
+IMPORT_OF_PROOF = re.compile(r"^(?:pub use [^{\n]*(?:\{[^}]*\})?.*\n|(use [^{\n]*(?:\{[^}]*\})?.*)\n)", re.MULTILINE)
+"""An import, over as many lines as it has."""
+IN_LOGIC = re.compile(r"\b(?:requires|ensures|ghost|tactic)\b[^{(;]*[{(]")
+"""What of code is written in the language of the proofs, up to the bracket that opens it."""
+COMMENT_OR_STRING = re.compile(r'"(?:\\.|[^"\\])*"|//[^\n]*', re.DOTALL)
 
 
-def imported(line):
-    """The names that come by an import: `use a::b;`, `use a::{b, c};`, `use A.B.{_+_, b as c}`, `use A.B`, `use A.B as c`."""
-    listed = re.search(r"\{(.*)\}", line)
-    names = listed[1].split(", ") if listed else [line.rstrip(";")]
-    return [re.split(r" as |::|\.", name)[-1] for name in names]
+def imported(statement):
+    """The names that come by an import: `use a::b`, `use a::{b, c}`, `use A.B.{◌+◌, b as c}`, `use A.B`, `use A.B as c`."""
+    listed = re.search(r"\{(.*)\}", statement, re.DOTALL)
+    names = [name for name in re.split(r",\s*", listed[1].strip()) if name] if listed else [statement]
+    return [re.split(r" as |::|\.", name.strip())[-1] for name in names]
 
 
-def module(line):
+def module(statement):
     """Where the names in an import's braces come from."""
-    return re.findall(r"use (.*)\.\{", line)
+    return re.findall(r"use (.*)(?:\.|::)\{", statement)
 
 
-def words_of_code(lines):
-    bare = re.sub(r'"(\\.|[^"\\])*"|//[^\n]*', " ", "\n".join(lines), flags=re.DOTALL)
-    return set(re.findall(r"(?<![\w.])\w+|(?<=\.\.)\w+", bare))
+def in_logic(code):
+    """The parts of code that are written in the language of the proofs."""
+    for head in IN_LOGIC.finditer(code):
+        depth, end = 1, head.end()
+        while depth and end < len(code):
+            depth += (code[end] in "{(") - (code[end] in "})")
+            end += 1
+        yield code[head.end() : end]
 
 
-def words_of_proof(lines):
-    text = "\n".join(line for line in lines if not line.lstrip().startswith("--"))
+def words_of_code(code):
+    return set(re.findall(r"(?<![\w.])\w+|(?<=\.\.)\w+", code))
+
+
+def words_of_logic(text):
+    text = "\n".join(line for line in text.splitlines() if not line.lstrip().startswith("--"))
     return {word for paragraph in text.split("\n\n") for word in words_of_paragraph(paragraph)}
 
 
 def words_of_paragraph(text):
-    words = {word.partition(".")[0] for word in re.split(r"[\s(){},;⌜⌝]+", text)}
+    words = {word.partition(".")[0] for word in re.split(r"[\s(){},;]+", text)}
     return words - set(re.findall(r"\blet (\S+) [=:]", text))
 
 
 def is_used(name, words):
-    """An operator such as `_+_` is used by its parts, or as it is, as where it is unfolded."""
-    is_operator = name.startswith("_") or name.endswith("_")
-    return name in words or (is_operator and words.issuperset(part for part in name.split("_") if part))
+    """An operator such as `◌+◌` is used by its parts, or as it is, as where it is unfolded."""
+    return name == "*" or name in words or ("◌" in name and words.issuperset(part for part in name.split("◌") if part))
 
 
 def unused(imports, words):
-    return [f"{name} is not used" for line in imports for name in imported(line) if not is_used(name, words)]
+    return [f"{name} is not used" for statement in imports for name in imported(statement) if not is_used(name, words)]
 
 
 def repeated(imports):
-    counts = Counter(name for line in imports for name in imported(line) + module(line))
+    counts = Counter(name for statement in imports for name in imported(statement) + module(statement))
     return [f"{name} is imported twice" for name, count in counts.items() if count > 1]
 
 
-def apart(kind, lines):
-    """The lines of a kind, and the others."""
-    return [line for line in lines if kind.match(line)], [line for line in lines if not kind.match(line)]
+def apart(kind, text):
+    """The imports of a text, and the rest of it."""
+    return [found[1] for found in kind.finditer(text) if found[1]], kind.sub("", text)
 
 
-def groups(path, lines):
+def groups(path, text):
     """The imports of a file, with the words that may use them."""
-    imports, rest = apart(IMPORT, lines)
     if path.suffix == ".antt":
-        return [(imports, words_of_proof(rest))]
-    ghosts, others = apart(GHOST, imports)
-    contracts, code = apart(CONTRACT, rest)
-    return [(others, words_of_code(code) | words_of_proof(contracts)), (ghosts, words_of_proof(contracts))]
+        imports, rest = apart(IMPORT_OF_PROOF, text)
+        return [(imports, words_of_logic(rest))]
+    imports, code = apart(IMPORT_OF_CODE, COMMENT_OR_STRING.sub(" ", text))
+    ghosts = [statement for statement in imports if statement.startswith("ghost")]
+    others = [statement for statement in imports if statement not in ghosts]
+    contracts = words_of_logic("\n\n".join(in_logic(code)))
+    return [(others, words_of_code(code) | contracts), (ghosts, contracts)]
 
 
 def faults():
-    for path in [*sorted(ROOT.glob("crates/**/*.rt")), *sorted(ROOT.glob("crates/**/*.antt"))]:
-        for imports, words in groups(path, path.read_text(encoding="utf-8").splitlines()):
+    for path in sorted(path for part in FILES for path in ROOT.glob(f"crates/*/{part}")):
+        for imports, words in groups(path, path.read_text(encoding="utf-8")):
             yield from (f"{path.relative_to(ROOT)}: {fault}" for fault in unused(imports, words) + repeated(imports))
 
 

@@ -15,14 +15,13 @@ from layering.svg import Drawing
 
 ROOT = Path(__file__).resolve().parents[1]
 CRATES, TABLES, PICTURE = (ROOT / name for name in ("crates.txt", "docs/CRATES.md", "docs/layers.svg"))
-KIT = {"io", "libc", "check", "os"}
-"""The kit's libraries, which are not drawn."""
 
 
 def read_needs():
-    """All that each crate needs. The order of crates.txt, which is that of proving, has no part in the drawing."""
+    """All that each crate needs, but for the kit's libraries, which are not drawn. The order of crates.txt has no part in the drawing."""
     lines = [line for line in CRATES.read_text(encoding="utf-8").splitlines() if line and not line.startswith("#")]
-    return {crate: sorted(set(needed.split()) - KIT) for crate, _, needed in (line.partition(":") for line in lines)}
+    rows = {named.split()[0]: needed.split() for named, _, needed in (line.partition(":") for line in lines)}
+    return {crate: sorted(set(needed) & set(rows)) for crate, needed in rows.items()}
 
 
 def direct(needs):
@@ -49,12 +48,6 @@ def read_section(section):
     return title, tuple(row[1] for row in rows if row)
 
 
-def name_faults(needs):
-    """What is needed and is neither a crate nor the kit's."""
-    for crate, named in needs.items():
-        yield from (f"crates.txt has no line for {needed}, which {crate} needs" for needed in named if needed not in needs)
-
-
 def table_faults(needs, bands):
     """Crates without a row of their own, and rows without a crate."""
     rows = Counter(crate for band in bands for crate in band.all_crates)
@@ -79,7 +72,7 @@ def fail(faults):
 
 def drawn():
     needs, bands = read_needs(), read_bands()
-    faults = [*name_faults(needs), *table_faults(needs, bands)] or [*layer_faults(needs, bands)]
+    faults = [*table_faults(needs, bands)] or [*layer_faults(needs, bands)]
     if faults:
         fail(faults)
     return Drawing(bands, direct(needs)).svg()

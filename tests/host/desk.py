@@ -12,7 +12,7 @@ from pathlib import Path
 from random import Random
 from tempfile import TemporaryDirectory
 
-from host import ROOT, Failed
+from host import ROOT, Failed, made
 
 sys.path.insert(0, str(ROOT / "tests" / "model"))
 
@@ -22,7 +22,6 @@ from making import residues
 from register_cases import honest
 from signon import FRESH, PERMUTATIONS, Done, Refused, Source, bit_at, frame_of, read_frame, start_of, stretch
 
-PROGRAM = ROOT / "target" / "bin" / "desk"
 MESSAGES = "system", "public", "commitments", "challenges", "answers", "bits", "openings"
 DATA = ROOT / "crates" / "desk" / "data"
 REFUSALS = "SHORT LONG VERSION KIND SHAPE VALUE PERM KEY ROOM DRAW STAGE WEAK FIRST SECOND SELF".split()
@@ -56,6 +55,7 @@ COMMANDS = {
 class Desk:
     def __init__(self, folder):
         self.folder = Path(folder)
+        self.program = made("desk")
         self.runs = 0
         self.wrong = []
 
@@ -69,7 +69,7 @@ class Desk:
     def run(self, *words):
         """What is printed, by lines."""
         self.runs += 1
-        ran = subprocess.run([PROGRAM, *map(str, words)], cwd=self.folder, stdout=subprocess.PIPE, stderr=subprocess.DEVNULL, check=True)
+        ran = subprocess.run([self.program, *map(str, words)], cwd=self.folder, stdout=subprocess.PIPE, stderr=subprocess.DEVNULL, check=True)
         return ran.stdout.decode().splitlines()
 
     def expect(self, name, got, wanted):

@@ -40,12 +40,27 @@ def built():
 
 
 BUILDING = Lock()
+"""One thing is proved and built at a time."""
 
 
 def archive():
     """The path of the archive, which is built once, by the first test that asks for it."""
     with BUILDING:
         return built()
+
+
+def program(name):
+    """Where the program of a crate lies."""
+    return ROOT / "crates" / name / "out" / name
+
+
+def made(name):
+    """The path of a program as rt ci has left it; where it is not there, it is proved and built now."""
+    path = program(name)
+    with BUILDING:
+        if not path.is_file():
+            run(["rt", "run"], path.parents[1], sent=b"")
+    return path
 
 
 def link(name, *sources, headers=()):

@@ -3,8 +3,8 @@
 
     python3 tests/host/run.py [NAME ..]
 
-NAME is header, verdict, desk, rust, example, sign_ons or generated; all of them where none is named. Needs rt, gcc, g++, nm and cargo, and the programs in
-target/bin. The archive is built first (bindings/archive). Exit status 1 where a test fails.
+NAME is header, verdict, desk, rust, example, sign_ons or generated; all of them where none is named. Needs rt, gcc, g++, nm and cargo. The archive is
+built first (bindings/archive); the programs are those that rt ci has left, or are built too. Exit status 1 where a test fails.
 """
 import os
 import sys

@@ -7,7 +7,7 @@ import time
 from itertools import chain
 from multiprocessing import Pool, cpu_count
 
-from host import ROOT, Failed
+from host import ROOT, Failed, made, program
 
 sys.path.insert(0, str(ROOT / "tests" / "model"))
 
@@ -15,7 +15,7 @@ from check import SAMPLE
 from program_input import honest_input
 from signon import PROGRAM_READS, verdict_line
 
-PROGRAM = ROOT / "target" / "bin" / "verdict"
+PROGRAM = program("verdict")
 HONEST = honest_input("every offset", 2, 64, 37, 31)
 SHOWN = 5
 """How many of the lines that differ are shown."""
@@ -70,12 +70,12 @@ def printed(sent):
 
 def printed_when_slow(sent):
     """The same, where the pipe delivers little at a time."""
-    with subprocess.Popen([PROGRAM], stdin=subprocess.PIPE, stdout=subprocess.PIPE) as program:
+    with subprocess.Popen([PROGRAM], stdin=subprocess.PIPE, stdout=subprocess.PIPE) as running:
         for start in range(0, len(sent), 100):
-            program.stdin.write(sent[start : start + 100])
-            program.stdin.flush()
+            running.stdin.write(sent[start : start + 100])
+            running.stdin.flush()
             time.sleep(0.001)
-        return program.communicate()[0].decode()
+        return running.communicate()[0].decode()
 
 
 def compared(named):
@@ -93,6 +93,7 @@ def fixed():
 
 
 def check():
+    made("verdict")
     with Pool(cpu_count()) as pool:
         lines = [*fixed(), *pool.imap(compared, inputs(), chunksize=32)]
     wrong = [f"{name}: {got!r}, not {wanted!r}" for name, got, wanted in lines if got != wanted]
