@@ -1,5 +1,5 @@
-// The card's calls as C functions: the host lends the record, and each call moves it on. Each has the one form for which tools/signon_walks.py
-// writes the proof: the record is copied out, the step is called, the next record is stored.
+// The card's calls as C functions: the host lends the record, and each call moves it on. Each has one form: the record is copied out, the step is
+// called, the next record is stored.
 ghost use Rattle.card_rules.specs.Keys.{keys};
 ghost use Rattle.card_for_c.specs.Card.{BeginForC, AnswerForC, OpenForC, GiveUpForC};
 

@@ -1,0 +1,12 @@
+-- `signon_draw_bits` hands on the answer of `draw_bits`, whose contract fixes all but how it is written.
+use native.Mathlib.Omega.{arith}
+use borrow.Author.Rules.{rules}
+use Rattle.refusals.specs.Number.{SHAPE, DRAW}
+use Rattle.refusals.specs.Buffer.{NONE}
+use Rattle.refusals.proofs.Chain.{demand-most}
+use Rattle.kinds.specs.Kinds.{within, alone}
+use Rattle.signon.proofs.ForC.{draw_for_c}
+use Rattle.signon.proofs.drawing.signon_draw_bits.Goals as goal
+
+pub returns : goal.returns
+returns c = draw_for_c _ _ _ _ _ _ _ _ (demand-most DRAW (within alone.rounds c.args.rounds) SHAPE NONE 0 (omega arith) (omega arith)) c.of_drawing.ensures c.draw_bits.ensures
