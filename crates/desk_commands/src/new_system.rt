@@ -12,6 +12,7 @@ use refusals::Refusal;
 use refusals::buffer::{NONE, OUTPUT, RANDOM};
 use refusals::number::{DRAW, ROOM, SHAPE};
 use writers::{Written, write_system};
+use std::rt::{Env, Files};
 
 // The arguments.
 const N_AT: usize = 2;
@@ -48,7 +49,7 @@ fn draw_system(n: usize, m: usize, random: &[u8], room: &mut [u8], out: &mut [u8
 }
 
 // N M RANDOM OUT
-pub fn system(lent: &[u8], room: &mut [u8], out: &mut [u8]) {
-    let told = draw_system(number(N_AT), number(M_AT), file(lent, RANDOM), room, out);
-    keep_written(told, lent, OUT_AT, out);
+pub fn system<R: Env + Files>(rt: &R, lent: &[u8], room: &mut [u8], out: &mut [u8]) {
+    let told = draw_system(number(rt, N_AT), number(rt, M_AT), file(lent, RANDOM), room, out);
+    keep_written(rt, told, lent, OUT_AT, out);
 }
