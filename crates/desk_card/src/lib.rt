@@ -17,8 +17,8 @@ use hosting::text::say;
 use record_bytes::{put_session, session_of};
 use refusals::Checked;
 use refusals::buffer::{BITS, CHALLENGES, CHOICES, NONE, PUBLIC, SECRET, SYSTEM};
-use writers::Written;
 use std::rt::{Env, Files};
+use writers::Written;
 
 // The arguments of begin, answer and open.
 const RECORD_AT: usize = 2;
@@ -45,13 +45,27 @@ fn session_in(lent: &[u8]) -> Session {
 }
 
 // Saves choices, record and output, in this order: nothing is shown before the record has moved on and the choices are gone.
-fn keep<R: Env + Files>(rt: &R, next: Session, choices_at: usize, choices: &[u8], out_at: usize, out: &[u8]) {
+fn keep<R: Env + Files>(
+    rt: &R,
+    next: Session,
+    choices_at: usize,
+    choices: &[u8],
+    out_at: usize,
+    out: &[u8],
+) {
     let mut bytes = [0u8; 68];
     put_session(next, &mut bytes);
     save_three(rt, choices_at, choices, RECORD_AT, &bytes, out_at, out);
 }
 
-fn finish<R: Env + Files>(rt: &R, step: Step, lent: &[u8], choices_at: usize, choices: &[u8], out: &[u8]) {
+fn finish<R: Env + Files>(
+    rt: &R,
+    step: Step,
+    lent: &[u8],
+    choices_at: usize,
+    choices: &[u8],
+    out: &[u8],
+) {
     let told = step.told;
     let next = step.next;
     match told {

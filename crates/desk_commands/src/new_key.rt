@@ -42,7 +42,7 @@ fn try_key(source: &mut impl Read, system: &[u8], out: &mut [u8]) -> Taken {
 }
 
 // Whether the bytes of a whole try were refused: others may do.
-fn is_worth_another(told: Taken) -> bool {
+fn is_worth_another(told: &Taken) -> bool {
     match told {
         Taken::Bytes(_) => false,
         Taken::Refused(x) => x.number == DRAW && x.place == TRY,
@@ -52,7 +52,7 @@ fn is_worth_another(told: Taken) -> bool {
 fn make_from(source: &mut impl Read, system: &[u8], out: &mut [u8]) -> Made {
     let mut told = try_key(source, system, out);
     let mut tries: usize = 1;
-    while tries < TRIES_MOST && is_worth_another(told) {
+    while tries < TRIES_MOST && is_worth_another(&told) {
         told = try_key(source, system, out);
         tries += 1;
     }
