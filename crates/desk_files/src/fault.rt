@@ -1,4 +1,6 @@
 // Why the system refused a file, as a line on standard error.
+ghost use Rattle.std.specs.Prelude.{◌≤◌};
+
 use std::fmt;
 use std::fmt::Write;
 use std::io::Error;
@@ -14,6 +16,7 @@ const ROOM: usize = 128;
 struct Message {
     bytes: [u8; ROOM],
     size: usize,
+    ghost within: { size ≤ 128 },
 }
 
 impl Message {
@@ -25,9 +28,6 @@ impl Message {
     }
 
     fn words(&self) -> &[u8] {
-        if ROOM < self.size {
-            return &self.bytes[..0];
-        }
         &self.bytes[..self.size]
     }
 }

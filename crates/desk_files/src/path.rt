@@ -1,4 +1,5 @@
 // Files by their paths. A path is text in UTF-8: no other names a file here.
+ghost use Rattle.std.specs.Prelude.{◌≡◌, IfOk};
 ghost use Rattle.io.specs.Counts.{IsPrefixLen};
 
 use std::fs;
@@ -14,7 +15,9 @@ const OWNER_ONLY: u32 = 0o600;
 // The system's number of the error that says of bytes that they are no text.
 const NO_TEXT: i32 = 84;
 
-fn text_of(path: &[u8]) -> Result<&str> {
+fn text_of(path: &[u8]) -> Result<&str>
+    ensures { IfOk result (λ text. text.now ≡ path.now) }
+{
     match from_utf8(path) {
         Ok(text) => Ok(text),
         Err(_) => Err(Error::from_raw_os_error(NO_TEXT)),
