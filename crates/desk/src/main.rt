@@ -8,39 +8,40 @@ use desk_files::argument::fail;
 use desk_files::slots::{FILE_MOST, SLOT, SLOTS, file};
 use frame_words::show;
 use refusals::buffer::NONE;
+use std::rt::{Env, Files};
 
 // The argument that names the command.
 const NAME_AT: usize = 1;
 
-fn run(command: Command, lent: &[u8], room: &mut [u8], out: &mut [u8]) {
+fn run<R: Env + Files>(rt: &R, command: Command, lent: &[u8], room: &mut [u8], out: &mut [u8]) {
     match command {
-        Command::System => desk_commands::new_system::system(lent, room, out),
-        Command::Key => desk_commands::new_key::key(lent, out),
+        Command::System => desk_commands::new_system::system(rt, lent, room, out),
+        Command::Key => desk_commands::new_key::key(rt, lent, out),
         Command::CheckKey => desk_card::check(lent),
-        Command::Choices => desk_commands::drawing::choices(lent, out),
-        Command::Begin => desk_card::begin(lent, out),
-        Command::Challenges => desk_commands::drawing::challenges(lent, out),
-        Command::Answer => desk_card::answer(lent, out),
-        Command::Bits => desk_commands::drawing::bits(lent, out),
-        Command::Open => desk_card::open(lent, room, out),
-        Command::GiveUp => desk_card::give_up(lent, room),
-        Command::Verdict => desk_commands::at_register::judge(lent),
-        Command::StandIn => desk_commands::without_key::play(lent, out),
+        Command::Choices => desk_commands::drawing::choices(rt, lent, out),
+        Command::Begin => desk_card::begin(rt, lent, out),
+        Command::Challenges => desk_commands::drawing::challenges(rt, lent, out),
+        Command::Answer => desk_card::answer(rt, lent, out),
+        Command::Bits => desk_commands::drawing::bits(rt, lent, out),
+        Command::Open => desk_card::open(rt, lent, room, out),
+        Command::GiveUp => desk_card::give_up(rt, lent, room),
+        Command::Verdict => desk_commands::at_register::judge(rt, lent),
+        Command::StandIn => desk_commands::without_key::play(rt, lent, out),
         Command::Show => show(file(lent, NONE)),
-        Command::Flip => desk_commands::flip::flip(lent, out),
+        Command::Flip => desk_commands::flip::flip(rt, lent, out),
         Command::Help => help(command),
     }
 }
 
-fn main() {
-    let command = command_named(NAME_AT);
+fn main(rt: HostRuntime) {
+    let command = command_named(&rt, NAME_AT);
     let mut lent = [0u8; SLOTS * SLOT];
     let mut room = [0u8; FILE_MOST];
     let mut out = [0u8; FILE_MOST];
-    if take_in(command, &mut lent) {
-        run(command, &lent, &mut room, &mut out);
+    if take_in(&rt, command, &mut lent) {
+        run(&rt, command, &lent, &mut room, &mut out);
     }
-    if is_unknown(command, NAME_AT) {
-        fail(NAME_AT, b" is no command of the desk");
+    if is_unknown(&rt, command, NAME_AT) {
+        fail(&rt, NAME_AT, b" is no command of the desk");
     }
 }

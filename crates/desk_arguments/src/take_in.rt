@@ -9,17 +9,18 @@ use desk_files::argument::{FIRST, given};
 use desk_files::load::{load_new_record, load_number, load_random, load_record, load_whole};
 use desk_files::slots::{SLOT, slot_start};
 use refusals::buffer::{NONE, OUTPUT, RANDOM};
+use std::rt::{Env, Files};
 
-fn load_in(role: u8, at: usize, slot: &mut [u8]) -> bool
+fn load_in<R: Env + Files>(rt: &R, role: u8, at: usize, slot: &mut [u8]) -> bool
     requires { length slot.old ≡ slot_size }
 {
     match role {
         END | SOURCE | OUTPUT => true,
-        NUMBER => load_number(at),
-        RANDOM => load_random(at, slot),
-        RECORD => load_record(at, slot),
-        NEW_RECORD => load_new_record(at, slot),
-        _ => load_whole(at, slot),
+        NUMBER => load_number(rt, at),
+        RANDOM => load_random(rt, at, slot),
+        RECORD => load_record(rt, at, slot),
+        NEW_RECORD => load_new_record(rt, at, slot),
+        _ => load_whole(rt, at, slot),
     }
 }
 
@@ -31,17 +32,17 @@ fn buffer_of(role: u8) -> u8 {
     NONE
 }
 
-fn load(role: u8, at: usize, lent: &mut [u8]) -> bool
+fn load<R: Env + Files>(rt: &R, role: u8, at: usize, lent: &mut [u8]) -> bool
     requires { length lent.old ≡ lent_size }
 {
     let start = slot_start(buffer_of(role));
     let end = start + SLOT;
-    load_in(role, at, &mut lent[start..end])
+    load_in(rt, role, at, &mut lent[start..end])
 }
 
 // Whether there are as many arguments as the command takes.
-fn is_as_called(command: Command) -> bool {
-    let given = given();
+fn is_as_called(rt: &impl Env, command: Command) -> bool {
+    let given = given(rt);
     if role_of(command, given) != END {
         return false;
     }
@@ -52,16 +53,16 @@ fn is_as_called(command: Command) -> bool {
 }
 
 // Takes in all arguments, and answers whether the command can be run; otherwise it has been said why not.
-pub fn take_in(command: Command, lent: &mut [u8]) -> bool
+pub fn take_in<R: Env + Files>(rt: &R, command: Command, lent: &mut [u8]) -> bool
     requires { length lent.old ≡ lent_size }
 {
-    if !is_as_called(command) {
+    if !is_as_called(rt, command) {
         help(command);
         return false;
     }
     let mut k: usize = 0;
     while k < ROLES {
-        if !load(role_of(command, k), FIRST + k, lent) {
+        if !load(rt, role_of(command, k), FIRST + k, lent) {
             return false;
         }
         k += 1;

@@ -17,6 +17,7 @@ use hosting::text::say;
 use record_bytes::{put_session, session_of};
 use refusals::Checked;
 use refusals::buffer::{BITS, CHALLENGES, CHOICES, NONE, PUBLIC, SECRET, SYSTEM};
+use std::rt::{Env, Files};
 use writers::Written;
 
 // The arguments of begin, answer and open.
@@ -44,37 +45,51 @@ fn session_in(lent: &[u8]) -> Session {
 }
 
 // Saves choices, record and output, in this order: nothing is shown before the record has moved on and the choices are gone.
-fn keep(next: Session, choices_at: usize, choices: &[u8], out_at: usize, out: &[u8]) {
+fn keep<R: Env + Files>(
+    rt: &R,
+    next: Session,
+    choices_at: usize,
+    choices: &[u8],
+    out_at: usize,
+    out: &[u8],
+) {
     let mut bytes = [0u8; 68];
     put_session(next, &mut bytes);
-    save_three(choices_at, choices, RECORD_AT, &bytes, out_at, out);
+    save_three(rt, choices_at, choices, RECORD_AT, &bytes, out_at, out);
 }
 
-fn finish(step: Step, lent: &[u8], choices_at: usize, choices: &[u8], out: &[u8]) {
+fn finish<R: Env + Files>(
+    rt: &R,
+    step: Step,
+    lent: &[u8],
+    choices_at: usize,
+    choices: &[u8],
+    out: &[u8],
+) {
     let told = step.told;
     let next = step.next;
     match told {
         Written::Refused(x) => refuse(x, lent),
-        Written::Wrote(count) => keep(next, choices_at, choices, OUT_AT, front(out, count)),
+        Written::Wrote(count) => keep(rt, next, choices_at, choices, OUT_AT, front(out, count)),
     }
 }
 
 // RECORD ROUNDS SYSTEM PUBLIC SECRET CHOICES OUT
-pub fn begin(lent: &[u8], out: &mut [u8]) {
+pub fn begin<R: Env + Files>(rt: &R, lent: &[u8], out: &mut [u8]) {
     let step = begin_step(
         session_in(lent),
-        number(ROUNDS_AT),
+        number(rt, ROUNDS_AT),
         file(lent, SYSTEM),
         file(lent, PUBLIC),
         file(lent, SECRET),
         file(lent, CHOICES),
         out,
     );
-    finish(step, lent, NOTHING, b"", out);
+    finish(rt, step, lent, NOTHING, b"", out);
 }
 
 // RECORD SYSTEM PUBLIC SECRET CHALLENGES CHOICES OUT
-pub fn answer(lent: &[u8], out: &mut [u8]) {
+pub fn answer<R: Env + Files>(rt: &R, lent: &[u8], out: &mut [u8]) {
     let step = answer_step(
         session_in(lent),
         file(lent, SYSTEM),
@@ -84,10 +99,10 @@ pub fn answer(lent: &[u8], out: &mut [u8]) {
         file(lent, CHOICES),
         out,
     );
-    finish(step, lent, NOTHING, b"", out);
+    finish(rt, step, lent, NOTHING, b"", out);
 }
 
-fn open_with(lent: &[u8], choices: &mut [u8], out: &mut [u8]) {
+fn open_with<R: Env + Files>(rt: &R, lent: &[u8], choices: &mut [u8], out: &mut [u8]) {
     let step = open_step(
         session_in(lent),
         file(lent, SYSTEM),
@@ -97,22 +112,22 @@ fn open_with(lent: &[u8], choices: &mut [u8], out: &mut [u8]) {
         choices,
         out,
     );
-    finish(step, lent, CHOICES_AT, choices, out);
+    finish(rt, step, lent, CHOICES_AT, choices, out);
 }
 
 // RECORD SYSTEM PUBLIC SECRET BITS CHOICES OUT
-pub fn open(lent: &[u8], room: &mut [u8], out: &mut [u8]) {
+pub fn open<R: Env + Files>(rt: &R, lent: &[u8], room: &mut [u8], out: &mut [u8]) {
     let size = lay(file(lent, CHOICES), room);
-    open_with(lent, &mut room[..size], out);
+    open_with(rt, lent, &mut room[..size], out);
 }
 
-fn give_up_with(lent: &[u8], choices: &mut [u8]) {
+fn give_up_with<R: Env + Files>(rt: &R, lent: &[u8], choices: &mut [u8]) {
     let next = give_up_step(session_in(lent), choices);
-    keep(next, GIVEN_UP_AT, choices, NOTHING, b"");
+    keep(rt, next, GIVEN_UP_AT, choices, NOTHING, b"");
 }
 
 // RECORD CHOICES
-pub fn give_up(lent: &[u8], room: &mut [u8]) {
+pub fn give_up<R: Env + Files>(rt: &R, lent: &[u8], room: &mut [u8]) {
     let size = lay(file(lent, CHOICES), room);
-    give_up_with(lent, &mut room[..size]);
+    give_up_with(rt, lent, &mut room[..size]);
 }

@@ -6,6 +6,7 @@ use hosting::text::{say, say_with};
 use refusals::buffer::{ANSWERS, BITS, CHALLENGES, COMMITMENTS, OPENINGS, PUBLIC, SYSTEM};
 use register::decide::verdict;
 use register_rules::Verdict;
+use std::rt::Env;
 
 const GRADE_AT: usize = 2;
 
@@ -15,9 +16,9 @@ fn say_accepted(rounds: usize) {
 }
 
 // GRADE SYSTEM PUBLIC COMMITMENTS CHALLENGES ANSWERS BITS OPENINGS
-pub fn judge(lent: &[u8]) {
+pub fn judge(rt: &impl Env, lent: &[u8]) {
     match verdict(
-        number(GRADE_AT),
+        number(rt, GRADE_AT),
         file(lent, SYSTEM),
         file(lent, PUBLIC),
         file(lent, COMMITMENTS),

@@ -12,6 +12,7 @@ use hosting::bytes::front;
 use hosting::text::{say, say_with};
 use kinds::{Kind, MOST_ROUNDS, size_of};
 use refusals::buffer::RANDOM;
+use std::rt::{Env, Files};
 
 // The frame that stands in front of the bytes, by its count.
 pub fn frame_in(bytes: &[u8]) -> &[u8] {
@@ -27,26 +28,26 @@ pub fn say_used(used: usize) {
 }
 
 // Saves what was drawn.
-fn keep(told: Taken, lent: &[u8], out_at: usize, drawn: &[u8]) {
+fn keep<R: Env + Files>(rt: &R, told: Taken, lent: &[u8], out_at: usize, drawn: &[u8]) {
     match told {
         Taken::Refused(x) => refuse(x, lent),
         Taken::Bytes(used) => {
             say_used(used);
-            save(out_at, drawn);
+            save(rt, out_at, drawn);
         }
     }
 }
 
 // ROUNDS RANDOM OUT
-pub fn challenges(lent: &[u8], out: &mut [u8]) {
-    let told = draw_challenges(number(2), file(lent, RANDOM), out);
-    keep(told, lent, 4, frame_in(out));
+pub fn challenges<R: Env + Files>(rt: &R, lent: &[u8], out: &mut [u8]) {
+    let told = draw_challenges(number(rt, 2), file(lent, RANDOM), out);
+    keep(rt, told, lent, 4, frame_in(out));
 }
 
 // ROUNDS RANDOM OUT
-pub fn bits(lent: &[u8], out: &mut [u8]) {
-    let told = draw_bits(number(2), file(lent, RANDOM), out);
-    keep(told, lent, 4, frame_in(out));
+pub fn bits<R: Env + Files>(rt: &R, lent: &[u8], out: &mut [u8]) {
+    let told = draw_bits(number(rt, 2), file(lent, RANDOM), out);
+    keep(rt, told, lent, 4, frame_in(out));
 }
 
 // The bytes of choices: n for R and n for sigma in each round.
@@ -61,9 +62,9 @@ fn choices_size(n: usize, rounds: usize) -> usize {
 }
 
 // N ROUNDS RANDOM OUT
-pub fn choices(lent: &[u8], out: &mut [u8]) {
-    let n = number(2);
-    let rounds = number(3);
+pub fn choices<R: Env + Files>(rt: &R, lent: &[u8], out: &mut [u8]) {
+    let n = number(rt, 2);
+    let rounds = number(rt, 3);
     let told = draw_choices(n, rounds, file(lent, RANDOM), out);
-    keep(told, lent, 5, front(out, choices_size(n, rounds)));
+    keep(rt, told, lent, 5, front(out, choices_size(n, rounds)));
 }

@@ -4,6 +4,7 @@ use desk_files::save::save;
 use desk_files::slots::file;
 use hosting::bytes::{front, lay};
 use refusals::buffer::NONE;
+use std::rt::{Env, Files};
 
 // The arguments.
 const FILE_AT: usize = 2;
@@ -20,21 +21,22 @@ fn flip_bit(x: u8, k: usize) -> u8 {
 }
 
 // FILE PLACE BIT OUT
-pub fn flip(lent: &[u8], out: &mut [u8]) {
+pub fn flip<R: Env + Files>(rt: &R, lent: &[u8], out: &mut [u8]) {
     let size = lay(file(lent, NONE), out);
-    let place = number(PLACE_AT);
-    let bit = number(BIT_AT);
+    let place = number(rt, PLACE_AT);
+    let bit = number(rt, BIT_AT);
     if size <= place {
-        fail(FILE_AT, b" has no byte at that place");
+        fail(rt, FILE_AT, b" has no byte at that place");
         return;
     }
     if 7 < bit {
         fail(
+            rt,
             BIT_AT,
             b" is no bit of a byte: bits are 0 to 7, the highest first",
         );
         return;
     }
     out[place] = flip_bit(out[place], bit);
-    save(OUT_AT, front(out, size));
+    save(rt, OUT_AT, front(out, size));
 }

@@ -11,6 +11,7 @@ use random::sequence::{measure_below, write_below};
 use refusals::Refusal;
 use refusals::buffer::{NONE, OUTPUT, RANDOM};
 use refusals::number::{DRAW, ROOM, SHAPE};
+use std::rt::{Env, Files};
 use writers::{Written, write_system};
 
 // The arguments.
@@ -48,7 +49,13 @@ fn draw_system(n: usize, m: usize, random: &[u8], room: &mut [u8], out: &mut [u8
 }
 
 // N M RANDOM OUT
-pub fn system(lent: &[u8], room: &mut [u8], out: &mut [u8]) {
-    let told = draw_system(number(N_AT), number(M_AT), file(lent, RANDOM), room, out);
-    keep_written(told, lent, OUT_AT, out);
+pub fn system<R: Env + Files>(rt: &R, lent: &[u8], room: &mut [u8], out: &mut [u8]) {
+    let told = draw_system(
+        number(rt, N_AT),
+        number(rt, M_AT),
+        file(lent, RANDOM),
+        room,
+        out,
+    );
+    keep_written(rt, told, lent, OUT_AT, out);
 }

@@ -4,6 +4,7 @@ use desk_files::slots::file;
 use desk_outcomes::keep_written;
 use refusals::buffer::{CHOICES, PUBLIC, SYSTEM};
 use stand_in::stand_in;
+use std::rt::{Env, Files};
 
 // The arguments.
 const CHALLENGE_AT: usize = 2;
@@ -13,14 +14,14 @@ const BIT_AT: usize = 3;
 const OUT_AT: usize = 7;
 
 // CHALLENGE BIT SYSTEM PUBLIC LENT OUT
-pub fn play(lent: &[u8], out: &mut [u8]) {
+pub fn play<R: Env + Files>(rt: &R, lent: &[u8], out: &mut [u8]) {
     let told = stand_in(
-        number(CHALLENGE_AT),
-        number(BIT_AT),
+        number(rt, CHALLENGE_AT),
+        number(rt, BIT_AT),
         file(lent, SYSTEM),
         file(lent, PUBLIC),
         file(lent, CHOICES),
         out,
     );
-    keep_written(told, lent, OUT_AT, out);
+    keep_written(rt, told, lent, OUT_AT, out);
 }

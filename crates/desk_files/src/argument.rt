@@ -1,10 +1,13 @@
 // The program's arguments: the command is argument 1, and what it is given stands from 2 on.
 ghost use Rattle.std.specs.Prelude.{◌≡◌};
+ghost use Rattle.io.specs.Counts.{IsPrefixLen};
 ghost use Rattle.desk_files.specs.Numbers.{number_in};
 
 use algebra::wide;
 use check::same;
 use hosting::text::say;
+use std::env::FillError;
+use std::rt::Env;
 
 // What a text says as a number.
 #[derive(Clone, Copy)]
@@ -24,32 +27,52 @@ const ZERO: usize = 48;
 
 const NINE: usize = 57;
 
-// How many arguments the command is given.
-pub fn given() -> usize {
-    let all = os::arg_count();
-    if all < FIRST {
-        return 0;
+// Whether there is such an argument.
+pub fn is_present(rt: &impl Env, at: usize) -> bool {
+    let mut text = io::buffer();
+    match rt.arg(at, &mut text) {
+        Err(FillError::NotPresent) => false,
+        _ => true,
     }
-    all - FIRST
+}
+
+// How many arguments the command is given.
+pub fn given(rt: &impl Env) -> usize {
+    for at in FIRST..usize::MAX {
+        if !is_present(rt, at) {
+            return at - FIRST;
+        }
+    }
+    usize::MAX - FIRST
+}
+
+// Puts an argument at the start of the buffer and answers its length, 0 where it is missing or longer than the buffer.
+pub fn argument(rt: &impl Env, at: usize, text: &mut [u8]) -> usize
+    ensures { IsPrefixLen result text.new }
+{
+    match rt.arg(at, text) {
+        Ok(size) => size,
+        Err(_) => 0,
+    }
 }
 
 // Whether the argument is the word.
-pub fn is_word(at: usize, word: &[u8]) -> bool {
+pub fn is_word(rt: &impl Env, at: usize, word: &[u8]) -> bool {
     let mut text = io::buffer();
-    let size = os::arg(at, &mut text);
+    let size = argument(rt, at, &mut text);
     same(&text[..size], word)
 }
 
-pub fn say_argument(at: usize) {
+pub fn say_argument(rt: &impl Env, at: usize) {
     let mut text = io::buffer();
-    let size = os::arg(at, &mut text);
+    let size = argument(rt, at, &mut text);
     say(&text[..size]);
 }
 
 // The last line of a command that was not run.
-pub fn fail(at: usize, words: &[u8]) {
+pub fn fail(rt: &impl Env, at: usize, words: &[u8]) {
     say(b"failed: ");
-    say_argument(at);
+    say_argument(rt, at);
     say(words);
     say(b"\n");
 }
@@ -80,15 +103,15 @@ fn number_in(text: &[u8]) -> Parsed
     Parsed::Is(value)
 }
 
-pub fn number_at(at: usize) -> Parsed {
+pub fn number_at(rt: &impl Env, at: usize) -> Parsed {
     let mut text = io::buffer();
-    let size = os::arg(at, &mut text);
+    let size = argument(rt, at, &mut text);
     number_in(&text[..size])
 }
 
 // The number that an argument is known to be.
-pub fn number(at: usize) -> usize {
-    match number_at(at) {
+pub fn number(rt: &impl Env, at: usize) -> usize {
+    match number_at(rt, at) {
         Parsed::Is(value) => value,
         Parsed::Isnt => 0,
     }

@@ -2,6 +2,8 @@
 #![tactic(auto)]
 
 pub mod argument;
+mod fault;
 pub mod load;
+pub mod path;
 pub mod save;
 pub mod slots;

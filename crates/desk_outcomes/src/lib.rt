@@ -6,6 +6,7 @@ use desk_files::slots::file;
 use hosting::bytes::front;
 use refusal_words::tell_refusal;
 use refusals::Refusal;
+use std::rt::{Env, Files};
 use writers::Written;
 
 pub fn refuse(x: Refusal, lent: &[u8]) {
@@ -14,9 +15,9 @@ pub fn refuse(x: Refusal, lent: &[u8]) {
 }
 
 // Saves what was written, or tells the refusal.
-pub fn keep_written(told: Written, lent: &[u8], at: usize, out: &[u8]) {
+pub fn keep_written<R: Env + Files>(rt: &R, told: Written, lent: &[u8], at: usize, out: &[u8]) {
     match told {
         Written::Refused(x) => refuse(x, lent),
-        Written::Wrote(count) => save(at, front(out, count)),
+        Written::Wrote(count) => save(rt, at, front(out, count)),
     }
 }

@@ -1,17 +1,19 @@
 // The parts of a line.
 use algebra::wide;
-use libc::STDOUT_FILENO;
+
+// Standard output.
+pub const STDOUT: i32 = 1;
 
 pub fn say(words: &[u8]) {
-    io::write_all(STDOUT_FILENO, words);
+    io::write_all(STDOUT, words);
 }
 
 pub fn say_number(x: usize) {
-    io::print_decimal(STDOUT_FILENO, x as u64);
+    io::print_decimal(STDOUT, x as u64);
 }
 
 pub fn say_hex(x: u8) {
-    io::print_hex(STDOUT_FILENO, wide(x) as u64, 2);
+    io::print_hex(STDOUT, wide(x) as u64, 2);
 }
 
 // The words and then the number.

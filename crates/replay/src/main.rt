@@ -5,10 +5,12 @@
 ghost use Rattle.io.specs.Counts.{IsPrefixLen};
 
 use crate::replay::replay;
-use libc::STDIN_FILENO;
 use replay_cases::case::big_endian;
 
 mod replay;
+
+// Standard input.
+const STDIN: i32 = 0;
 
 // A proved loop has to end, and nothing says that the input does: no run has so many cases.
 const MOST_CASES: usize = 1000000;
@@ -18,14 +20,14 @@ fn read_case(space: &mut [u8]) -> usize
     ensures { IsPrefixLen result space.new }
 {
     let mut heading = [0u8; 4];
-    if io::read_full(STDIN_FILENO, &mut heading) < 4 {
+    if io::read_full(STDIN, &mut heading) < 4 {
         return 0;
     }
     let size = big_endian(&heading);
     if space.len() < size {
         return 0;
     }
-    if io::read_full(STDIN_FILENO, &mut space[..size]) < size {
+    if io::read_full(STDIN, &mut space[..size]) < size {
         return 0;
     }
     size

@@ -5,8 +5,8 @@ use draw::messages::{draw_bits, draw_challenges};
 use draw::permutation::draw_permutation;
 use draw_rules::Taken;
 use hosting::bytes::lay;
+use hosting::text::STDOUT;
 use key_making::make_key;
-use libc::STDOUT_FILENO;
 use readers::by_number::read_kind;
 use readers::opening::{check_opening, opening};
 use replay_cases::case::{buffer_of, call_of, number_of};
@@ -121,9 +121,9 @@ fn replay_in(call: u8, case: &[u8], room: &mut [u8]) {
 // A case and its line.
 pub fn replay(index: usize, case: &[u8]) {
     let call = call_of(case);
-    io::print_decimal(STDOUT_FILENO, index as u64);
+    io::print_decimal(STDOUT, index as u64);
     tell_number(wide(call));
     let mut room = [0u8; 16384];
     replay_in(call, case, &mut room);
-    io::write_all(STDOUT_FILENO, b"\n");
+    io::write_all(STDOUT, b"\n");
 }

@@ -2,7 +2,7 @@
 use algebra::wide;
 use draw_rules::Taken;
 use frames::read::Read;
-use libc::STDOUT_FILENO;
+use hosting::text::STDOUT;
 use refusals::{Checked, Refusal};
 use register_rules::Verdict;
 use writers::Written;
@@ -11,12 +11,12 @@ use writers::Written;
 const SHOWN_WHOLE: usize = 40;
 
 pub fn tell_number(x: usize) {
-    io::write_all(STDOUT_FILENO, b" ");
-    io::print_decimal(STDOUT_FILENO, x as u64);
+    io::write_all(STDOUT, b" ");
+    io::print_decimal(STDOUT, x as u64);
 }
 
 pub fn tell_done() {
-    io::write_all(STDOUT_FILENO, b" done");
+    io::write_all(STDOUT, b" done");
 }
 
 fn tell_done_with(value: usize) {
@@ -25,7 +25,7 @@ fn tell_done_with(value: usize) {
 }
 
 fn tell_refusal(x: Refusal) {
-    io::write_all(STDOUT_FILENO, b" refused");
+    io::write_all(STDOUT, b" refused");
     tell_number(wide(x.number));
     tell_number(wide(x.buffer));
     tell_number(x.place);
@@ -72,10 +72,10 @@ pub fn tell_verdict(answer: Verdict) {
 }
 
 fn tell_hex(bytes: &[u8]) {
-    io::write_all(STDOUT_FILENO, b" =");
+    io::write_all(STDOUT, b" =");
     let mut i: usize = 0;
     while i < bytes.len() {
-        io::print_hex(STDOUT_FILENO, wide(bytes[i]) as u64, 2);
+        io::print_hex(STDOUT, wide(bytes[i]) as u64, 2);
         i += 1;
     }
 }
@@ -99,6 +99,6 @@ pub fn tell_bytes(bytes: &[u8]) {
         tell_hex(bytes);
         return;
     }
-    io::write_all(STDOUT_FILENO, b" ~");
-    io::print_hex(STDOUT_FILENO, adler_32(bytes), 8);
+    io::write_all(STDOUT, b" ~");
+    io::print_hex(STDOUT, adler_32(bytes), 8);
 }

@@ -2,16 +2,18 @@
 #![tactic(auto)]
 
 use crate::tell::tell;
-use libc::STDIN_FILENO;
 use register_input::judge;
 
 mod tell;
+
+// Standard input.
+const STDIN: i32 = 0;
 
 // The most bytes that are read; later ones do not exist.
 const MOST_BYTES: usize = 65536;
 
 fn main() {
     let mut space = [0u8; MOST_BYTES];
-    let size = io::read_full(STDIN_FILENO, &mut space);
+    let size = io::read_full(STDIN, &mut space);
     tell(judge(&space[..size]));
 }

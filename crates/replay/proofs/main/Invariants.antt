@@ -1,0 +1,9 @@
+-- The cases still to come are the measure.
+use Rattle.std.proofs.Common.{◌≤◌, ◌-◌}
+use Rattle.replay.proofs.main.Given as goal
+
+abbrev pub invariant-loop-index : goal.invariant-loop-index
+invariant-loop-index l = l.index ≤ 1000000
+
+abbrev pub decreases-loop-index : goal.decreases-loop-index
+decreases-loop-index l = 1000000 - l.index

@@ -1,0 +1,9 @@
+-- The bytes still to be made are the measure.
+use Rattle.std.proofs.Common.{◌≤◌, ◌≡◌, ◌-◌, length}
+use Rattle.sha256_vectors.proofs.print_mixed.Given as goal
+
+abbrev pub invariant-loop-i : goal.invariant-loop-i
+invariant-loop-i l = (l.i ≤ l.n) × (length l.room ≡ length l.initial.room)
+
+abbrev pub decreases-loop-i : goal.decreases-loop-i
+decreases-loop-i l = l.n - l.i

@@ -1,0 +1,9 @@
+-- The lengths still to come are the measure.
+use Rattle.std.proofs.Common.{◌≤◌, ◌-◌}
+use Rattle.sha256_vectors.proofs.print_short.Given as goal
+
+abbrev pub invariant-loop-n : goal.invariant-loop-n
+invariant-loop-n l = l.n ≤ 301
+
+abbrev pub decreases-loop-n : goal.decreases-loop-n
+decreases-loop-n l = 301 - l.n
