@@ -5,7 +5,7 @@
 
 A name is used where it stands as a word outside of imports and comments; one of `ghost use` where it stands in a contract. A word behind a dot is no
 use: it is a field, or a name of the module before the dot. Nor is a name in a paragraph that binds it by `let`. That an argument of a law hides an
-import of its name is not seen. `pub use` hands names on, and is left alone.
+import of its name is not seen. `pub use` hands names on, and is left alone; so is what code imports of std, whose traits are used by their methods.
 
 Exit status 1 where there is one.
 """
@@ -86,7 +86,7 @@ def groups(path, text):
         return [(imports, words_of_logic(rest))]
     imports, code = apart(IMPORT_OF_CODE, COMMENT_OR_STRING.sub(" ", text))
     ghosts = [statement for statement in imports if statement.startswith("ghost")]
-    others = [statement for statement in imports if statement not in ghosts]
+    others = [statement for statement in imports if statement not in ghosts and not statement.startswith("use std::")]
     contracts = words_of_logic("\n\n".join(in_logic(code)))
     return [(others, words_of_code(code) | contracts), (ghosts, contracts)]
 

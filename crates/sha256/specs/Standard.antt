@@ -12,7 +12,7 @@ bytes zero x = []
 bytes (suc k) x = x / 2 ^ (8 * k) % 2 ^ 8 ∷ bytes k x
 
 -- §5.1.1: the padded message: the message, the bit 1 and seven zeros, the least number of bytes of zeros, and the count of bits in eight bytes.
--- That these zeros end the block, and that fewer would not: `zeros-fit` and `zeros-least` in proofs/Padding.antt
+-- That these zeros end the block, and that fewer would not: `zeros_fit` and `zeros-least` in proofs/Padding.antt
 unfoldable pub zeros : ℕ → ℕ
 zeros n = (119 - n % 64) % 64
 

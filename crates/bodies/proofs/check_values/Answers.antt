@@ -1,10 +1,8 @@
 -- `check_values` meets its contract: no residue before the place j is refused.
 use mathlib.Core.Path.{◌≡◌, sym, ◌∙◌}
-use Prim.Native.Nat.{◌-◌, ◌≤◌}
 use native.Mathlib.Omega.{arith}
 use borrow.Author.Rules.{rules}
 use lib.ListN.{length}
-use Rattle.refusals.specs.Told.{fine, first_below}
 use Rattle.refusals.proofs.Chain.{below_none, below_more, below-stops}
 use Rattle.bodies.specs.Bodies.{residue_at, values}
 use Rattle.bodies.proofs.Loops.{residue_fine, residue_refused}

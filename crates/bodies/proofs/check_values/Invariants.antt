@@ -1,13 +1,9 @@
 -- `check_values` meets its contract: no residue before the place j is refused.
-use mathlib.Core.Path.{◌≡◌, sym, ◌∙◌}
+use mathlib.Core.Path.{◌≡◌}
 use Prim.Native.Nat.{◌-◌, ◌≤◌}
-use native.Mathlib.Omega.{arith}
-use borrow.Author.Rules.{rules}
 use lib.ListN.{length}
 use Rattle.refusals.specs.Told.{fine, first_below}
-use Rattle.refusals.proofs.Chain.{below_none, below_more, below-stops}
-use Rattle.bodies.specs.Bodies.{residue_at, values}
-use Rattle.bodies.proofs.Loops.{residue_fine, residue_refused}
+use Rattle.bodies.specs.Bodies.{residue_at}
 use Rattle.bodies.proofs.check_values.Given as goal
 
 abbrev pub invariant-loop-j : goal.invariant-loop-j

@@ -1,5 +1,4 @@
 -- `spare_clear` meets its contract: only kind 7 has unused bits.
-use borrow.Author.Rules.{rules}
 use Rattle.bodies.proofs.spare_clear.Goals as goal
 
 pub returns-in-Bits : goal.returns-in-Bits

@@ -1,12 +1,8 @@
 -- `answer_all` meets its contract: after k turns the first answers of the first k rounds stand over the front.
-use mathlib.Core.Path.{◌≡◌}
 use Prim.Native.Nat.{◌-◌, ◌≤◌}
-use native.Mathlib.Omega.{arith}
-use borrow.Author.Rules.{rules}
 use Rattle.algebra.specs.Residues.{modulus}
-use Rattle.algebra.proofs.Lists.{stretch-fits, Joining, joining_none, joining_more}
+use Rattle.algebra.proofs.Lists.{Joining}
 use Rattle.rounds.specs.Rounds.{answer_at}
-use Rattle.rounds.proofs.Runs.{answer-length}
 use Rattle.card_rounds.proofs.answer_all.Given as goal
 
 abbrev pub invariant-loop-k : goal.invariant-loop-k

@@ -3,7 +3,6 @@ use mathlib.Core.Path.{sym, ap, ap₂, ◌∙◌}
 use mathlib.Core.List.{List}
 use Prim.Native.Nat.{ℕ, ◌-◌, ◌*◌}
 use native.Mathlib.Omega.{arith}
-use borrow.Author.Rules.{rules}
 use lib.ListN.{length, get_or}
 use borrow.Rule.Slice.PartMut.{put_mid, mid_of}
 use Rattle.scheme.specs.Round.{pair, first_answer}

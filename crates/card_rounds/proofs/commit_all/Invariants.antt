@@ -1,12 +1,8 @@
 -- `commit_all` meets its contract: after k turns the commitments of the first k rounds stand over the front.
-use mathlib.Core.Path.{◌≡◌}
 use Prim.Native.Nat.{◌-◌, ◌≤◌}
-use native.Mathlib.Omega.{arith}
-use borrow.Author.Rules.{rules}
 use Rattle.scheme.specs.Round.{system_of}
-use Rattle.algebra.proofs.Lists.{stretch-fits, Joining, joining_none, joining_more}
+use Rattle.algebra.proofs.Lists.{Joining}
 use Rattle.rounds.specs.Rounds.{commitments_at}
-use Rattle.rounds.proofs.Runs.{commitments-length}
 use Rattle.card_rounds.proofs.commit_all.Given as goal
 
 abbrev pub invariant-loop-k : goal.invariant-loop-k

@@ -1,9 +1,8 @@
 -- `open_all` meets its contract: after k turns the openings of the first k rounds stand over the front.
 use mathlib.Core.Path.{◌≡◌}
-use Prim.Native.Nat.{◌-◌, ◌≤◌}
 use native.Mathlib.Omega.{arith}
 use borrow.Author.Rules.{rules}
-use Rattle.algebra.proofs.Lists.{stretch-fits, Joining, joining_none, joining_more}
+use Rattle.algebra.proofs.Lists.{stretch-fits, joining_none, joining_more}
 use Rattle.packed_bits.specs.PackedBits.{bit_at}
 use Rattle.rounds.specs.Rounds.{opening_at}
 use Rattle.rounds.proofs.Runs.{opening-length}

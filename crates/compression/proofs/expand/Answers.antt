@@ -1,5 +1,4 @@
 -- `expand` is the sum that makes a word of the schedule from four before it.
-use borrow.Author.Rules.{rules}
 use Rattle.compression.specs.Block.{expand_of}
 use Rattle.compression.proofs.expand.Goals as goal
 

@@ -1,9 +1,7 @@
 -- `schedule` is the schedule of the block: its first t words are those of the definition, through both loops.
 use mathlib.Core.Path.{◌≡◌, refl, sym, ap, ◌∙◌}
-use Prim.Native.Nat.{◌-◌, ◌≤◌}
 use native.Mathlib.Omega.{arith}
-use borrow.Author.Rules.{rules}
-use lib.ListN.{length, take, length-set}
+use lib.ListN.{length-set}
 use lib.Seq.{take_all}
 use Rattle.compression.proofs.Loops.{W-more, word_low, word_high}
 use Rattle.compression.specs.Block.{W, word_of}
@@ -15,10 +13,10 @@ loop-t-init c = (omega arith, refl, refl)
 
 pub loop-t-preserved : goal.loop-t-preserved
 loop-t-preserved c = let b = c.args.block.now in (
-      omega arith,
-      W-more b c.loop-t.w c.loop-t.t c.word_at.result (omega arith) c.loop-t.invariant.1 (c.word_at.ensures ∙ sym (word_low b _ c.loop-t.t (omega arith))),
-      simp length-set (omega arith),
-    )
+  omega arith,
+  W-more b c.loop-t.w c.loop-t.t c.word_at.result (omega arith) c.loop-t.invariant.1 (c.word_at.ensures ∙ sym (word_low b _ c.loop-t.t (omega arith))),
+  simp length-set (omega arith),
+)
 
 pub loop-t-2-preserved : goal.loop-t-2-preserved
 loop-t-2-preserved c = let b = c.args.block.now in

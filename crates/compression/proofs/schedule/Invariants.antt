@@ -1,12 +1,8 @@
 -- `schedule` is the schedule of the block: its first t words are those of the definition, through both loops.
-use mathlib.Core.Path.{◌≡◌, refl, sym, ap, ◌∙◌}
+use mathlib.Core.Path.{◌≡◌}
 use Prim.Native.Nat.{◌-◌, ◌≤◌}
-use native.Mathlib.Omega.{arith}
-use borrow.Author.Rules.{rules}
-use lib.ListN.{length, take, length-set}
-use lib.Seq.{take_all}
-use Rattle.compression.proofs.Loops.{W-more, word_low, word_high}
-use Rattle.compression.specs.Block.{W, word_of}
+use lib.ListN.{length, take}
+use Rattle.compression.specs.Block.{W}
 use Rattle.compression.proofs.schedule.Given as goal
 
 abbrev pub invariant-loop-t : goal.invariant-loop-t

@@ -1,11 +1,7 @@
 -- `turns` is the 64 turns: after t of them, where t is a multiple of 4, the working variables are those of the definition.
-use mathlib.Core.Path.{◌≡◌, refl}
-use Prim.Native.Nat.{◌+◌, ◌-◌, ◌%◌, ◌≤◌, ◌<◌}
-use native.Mathlib.Omega.{arith}
-use borrow.Author.Rules.{rules}
-use Rattle.compression.proofs.Loops.{turns_more}
+use mathlib.Core.Path.{◌≡◌}
+use Prim.Native.Nat.{◌-◌, ◌%◌, ◌≤◌}
 use Rattle.compression.specs.Block.{turns_of}
-use Rattle.compression.specs.Constants.{K}
 use Rattle.compression.proofs.turns.Given as goal
 
 abbrev pub invariant-loop-t : goal.invariant-loop-t

@@ -1,5 +1,4 @@
 -- `rounds_fit` meets its contract: the limits are those of a frame alone.
-use borrow.Author.Rules.{rules}
 use Rattle.draw.proofs.rounds_fit.Goals as goal
 
 pub returns : goal.returns

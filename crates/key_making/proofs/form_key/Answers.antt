@@ -3,7 +3,6 @@ use mathlib.Core.Path.{◌≡◌, sym, ap, ap₂, ◌∙◌, subst}
 use mathlib.Core.List.{List}
 use Prim.Native.Nat.{ℕ, ◌-◌}
 use native.Mathlib.Omega.{arith}
-use borrow.Author.Rules.{rules}
 use lib.ListN.{length, take, drop}
 use lib.Seq.{length-take-le, take_at, drop_at}
 use Rattle.random.specs.Drawings.{Drawing, draw_permutation, drawn_over}
@@ -22,18 +21,18 @@ use Rattle.key_making.proofs.form_key.Goals as goal
 pub write_permutation-p-requires : goal.write_permutation-p-requires
 unfolding draw_pair
 write_permutation-p-requires c = let s = c.requires.0 in (
-      enough-first (draw_permutation c.args.n c.args.random.now 0) (draw_residues (c.args.n - c.args.m) c.args.random.now) c.requires.1,
-      omega arith,
-      omega arith,
-      omega arith,
-    )
+  enough-first (draw_permutation c.args.n c.args.random.now 0) (draw_residues (c.args.n - c.args.m) c.args.random.now) c.requires.1,
+  omega arith,
+  omega arith,
+  omega arith,
+)
 
 pub write_below-requires : goal.write_below-requires
 unfolding draw_pair
 write_below-requires c = let s = c.requires.0 in (
-      enough_next (draw_permutation c.args.n c.args.random.now 0) (draw_residues (c.args.n - c.args.m) c.args.random.now) _ c.requires.1 c.write_permutation-p.ensures.0,
-      omega arith,
-    )
+  enough_next (draw_permutation c.args.n c.args.random.now 0) (draw_residues (c.args.n - c.args.m) c.args.random.now) _ c.requires.1 c.write_permutation-p.ensures.0,
+  omega arith,
+)
 
 pub slice_bounds-unpermute_into-end-2 : goal.slice_bounds-unpermute_into-end-2
 slice_bounds-unpermute_into-end-2 c = let s = c.requires.0 in sym (length-take-le _ _ (omega (arith, c.complete.auto, c.write_below.auto)))

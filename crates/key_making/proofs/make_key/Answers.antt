@@ -2,7 +2,6 @@
 use mathlib.Core.Path.{◌≡◌, sym, ap, ◌∙◌}
 use mathlib.Core.List.{[], ◌∷◌}
 use native.Mathlib.Omega.{arith}
-use borrow.Author.Rules.{rules}
 use Rattle.kinds.specs.Kinds.{alone}
 use Rattle.frames.specs.Reading.{first_of, second_of, read_means}
 use Rattle.frames.proofs.Facts.{reading-told}

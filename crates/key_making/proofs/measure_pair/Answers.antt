@@ -1,7 +1,6 @@
 -- `measure_pair` meets its contract: π, and from the place after it the start of X.
 use mathlib.Core.Path.{sym, ◌∙◌}
 use Prim.Native.Nat.{◌-◌}
-use borrow.Author.Rules.{rules}
 use Rattle.random.specs.Drawings.{draw_permutation}
 use Rattle.key_making.specs.Key.{draw_pair}
 use Rattle.random.specs.Sequences.{draw_residues}

@@ -1,7 +1,6 @@
 -- `put_key` meets its contract: the second frame starts where the first ends.
 use Prim.Native.Nat.{◌-◌}
 use native.Mathlib.Omega.{arith}
-use borrow.Author.Rules.{rules}
 use lib.ListN.{length}
 use Rattle.writers.specs.Writing.{frame}
 use Rattle.writers.proofs.Spelling.{frame-spells}

@@ -8,7 +8,7 @@ use Rattle.algebra.proofs.Sums.{byte_mul}
 use Rattle.kinds.proofs.rows_size.Goals as goal
 
 pub returns-then-n-m : goal.returns-then-n-m
-returns-then-n-m c =     let e : c.args.n - c.args.m ≡ 0 = omega arith in
+returns-then-n-m c = let e : c.args.n - c.args.m ≡ 0 = omega arith in
     (rw e (sym (mul-zero c.args.m)), search rules)
 
 pub overflow_mul-result : goal.overflow_mul-result

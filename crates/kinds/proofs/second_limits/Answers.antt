@@ -1,5 +1,4 @@
 -- `second_limits` meets its contract: it is the column of the table.
-use borrow.Author.Rules.{rules}
 use Rattle.kinds.proofs.second_limits.Goals as goal
 
 pub returns-in-System : goal.returns-in-System

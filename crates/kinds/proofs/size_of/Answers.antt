@@ -1,7 +1,6 @@
 -- `size_of` meets its contract: it is the column of the table, and products of bytes fit.
 use mathlib.Core.Path.{refl}
 use native.Mathlib.Omega.{arith}
-use borrow.Author.Rules.{rules}
 use Rattle.algebra.proofs.Sums.{byte_mul}
 use Rattle.kinds.proofs.size_of.Goals as goal
 

@@ -1,13 +1,7 @@
 -- `complete` meets its contract: in each turn one more entry of the completed X stands in its place.
-use mathlib.Core.Path.{sym, ap, ◌∙◌}
-use Prim.Native.Nat.{◌+◌, ◌-◌, ◌≤◌}
-use native.Mathlib.Omega.{arith}
-use borrow.Author.Rules.{rules}
-use lib.ListN.{set, length-set}
-use lib.Seq.{length-take-le}
-use Rattle.algebra.specs.Residues.{modulus, negative}
-use Rattle.algebra.proofs.Lists.{stretch-fits}
-use Rattle.matrices.proofs.Solving.{row_residue, Completing, completing_none, completing-row, completing-more, completing_all}
+use Prim.Native.Nat.{◌-◌, ◌≤◌}
+use Rattle.algebra.specs.Residues.{modulus}
+use Rattle.matrices.proofs.Solving.{Completing}
 use Rattle.matrices.proofs.complete.Given as goal
 
 abbrev pub invariant-loop-i : goal.invariant-loop-i

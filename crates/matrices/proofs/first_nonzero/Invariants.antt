@@ -1,14 +1,9 @@
 -- `first_nonzero` meets its contract: the search from row i on finds what the search from row 0 on finds.
-use mathlib.Core.Path.{◌≡◌, sym, ap, ◌∙◌}
-use mathlib.Core.Bool.{not}
-use Prim.Native.Nat.{ℕ, ◌-◌, ◌≤◌}
-use native.Mathlib.Omega.{arith}
-use borrow.Author.Rules.{rules}
-use borrow.Author.Tests.{eq-eqb, ne_eqb}
+use mathlib.Core.Path.{◌≡◌}
+use Prim.Native.Nat.{◌-◌, ◌≤◌}
 use Rattle.algebra.specs.Lists.{first_from}
 use Rattle.matrices.specs.Matrices.{nonzero_row}
 use Rattle.algebra.specs.Residues.{modulus}
-use Rattle.algebra.proofs.Lists.{first_hit, first_skip, first_end, stretch-fits}
 use Rattle.matrices.proofs.first_nonzero.Given as goal
 
 abbrev pub invariant-loop-i : goal.invariant-loop-i

@@ -1,5 +1,4 @@
 -- `key_fault` meets its contract: a room of 64 holds V_π.
-use borrow.Author.Rules.{rules}
 use Rattle.matrices.proofs.key_fault.Goals as goal
 
 pub returns : goal.returns

@@ -1,11 +1,10 @@
 -- `product_into` meets its contract: A X is the table of its rows, written one a turn.
 use mathlib.Core.Path.{refl}
-use Prim.Native.Nat.{ℕ, ◌-◌, ◌≤◌}
+use Prim.Native.Nat.{◌-◌}
 use native.Mathlib.Omega.{arith}
 use borrow.Author.Rules.{rules}
-use Rattle.matrices.specs.Matrices.{row_times, row_of, product}
-use Rattle.algebra.specs.Residues.{modulus}
-use Rattle.algebra.proofs.Lists.{stretch-fits, Tabulated, tabulated_none, tabulated_more, tabulated_all}
+use Rattle.matrices.specs.Matrices.{product}
+use Rattle.algebra.proofs.Lists.{stretch-fits, tabulated_none, tabulated_more, tabulated_all}
 use Rattle.matrices.proofs.product_into.Goals as goal
 
 pub loop-i-init : goal.loop-i-init

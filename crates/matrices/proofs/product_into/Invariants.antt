@@ -1,11 +1,8 @@
 -- `product_into` meets its contract: A X is the table of its rows, written one a turn.
-use mathlib.Core.Path.{refl}
 use Prim.Native.Nat.{ℕ, ◌-◌, ◌≤◌}
-use native.Mathlib.Omega.{arith}
-use borrow.Author.Rules.{rules}
-use Rattle.matrices.specs.Matrices.{row_times, row_of, product}
+use Rattle.matrices.specs.Matrices.{row_times, row_of}
 use Rattle.algebra.specs.Residues.{modulus}
-use Rattle.algebra.proofs.Lists.{stretch-fits, Tabulated, tabulated_none, tabulated_more, tabulated_all}
+use Rattle.algebra.proofs.Lists.{Tabulated}
 use Rattle.matrices.proofs.product_into.Given as goal
 
 abbrev pub invariant-loop-i : goal.invariant-loop-i

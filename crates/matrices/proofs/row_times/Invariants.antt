@@ -1,13 +1,8 @@
 -- `row_times` meets its contract: after j turns the sum is that of the first j products, and at most 65,025 for each of them.
-use mathlib.Core.Path.{◌≡◌, refl, ap, ◌∙◌}
-use Prim.Native.Nat.{ℕ, ◌+◌, ◌-◌, ◌*◌, ◌%◌, ◌≤◌}
-use native.Mathlib.Omega.{arith}
-use borrow.Author.Rules.{rules}
+use mathlib.Core.Path.{◌≡◌}
+use Prim.Native.Nat.{ℕ, ◌-◌, ◌*◌, ◌≤◌}
 use lib.ListN.{length, get_or}
 use Rattle.algebra.specs.Lists.{sum_below}
-use Rattle.matrices.specs.Matrices.{row_times}
-use Rattle.algebra.specs.Residues.{modulus}
-use Rattle.algebra.proofs.Sums.{sum_next, byte_mul}
 use Rattle.matrices.proofs.row_times.Given as goal
 
 abbrev pub invariant-loop-j : goal.invariant-loop-j

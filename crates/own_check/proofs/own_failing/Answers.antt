@@ -1,14 +1,12 @@
 -- `own_failing` meets its contract: the search from round k on finds what the search from round 0 on finds.
 use mathlib.Core.Path.{◌≡◌, sym, ap, ◌∙◌}
 use mathlib.Core.Bool.{not}
-use Prim.Native.Nat.{ℕ, ◌-◌, ◌≤◌}
+use Prim.Native.Nat.{ℕ, ◌-◌}
 use native.Mathlib.Omega.{arith}
 use borrow.Author.Rules.{rules}
-use borrow.Author.Tests.{not-false, not-true}
 use lib.ListN.{get_or}
 use Rattle.algebra.proofs.Lists.{first_end, first_hit, first_skip}
-use Rattle.algebra.specs.Lists.{first_from}
-use Rattle.own_check.specs.Own.{own_failing, own_fails, own_passes}
+use Rattle.own_check.specs.Own.{own_failing, own_passes}
 use Rattle.packed_bits.specs.PackedBits.{bit_at}
 use Rattle.scheme.specs.Round.{system_of}
 use Rattle.rounds.proofs.Cuts.{vector-length}

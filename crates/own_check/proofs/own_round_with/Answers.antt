@@ -1,7 +1,6 @@
 -- `own_round_with` meets its contract: what is opened is formed, and looked at.
 use mathlib.Core.Path.{◌≡◌, sym, ap, ◌∙◌}
 use native.Mathlib.Omega.{arith}
-use borrow.Author.Rules.{rules}
 use lib.ListN.{length}
 use Rattle.algebra.proofs.Lists.{front}
 use Rattle.algebra.specs.Residues.{modulus}

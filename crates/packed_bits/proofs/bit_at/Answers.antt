@@ -1,6 +1,5 @@
 -- `bit_at` meets its contract: the code is the definition.
 use mathlib.Core.Path.{refl}
-use borrow.Author.Rules.{rules}
 use Rattle.packed_bits.specs.PackedBits.{bit_at}
 use Rattle.packed_bits.proofs.bit_at.Goals as goal
 

@@ -1,9 +1,6 @@
 -- `unused_clear` meets its contract: the bits from N to k are clear.
 use mathlib.Core.Path.{sym, ◌∙◌}
-use Prim.Native.Nat.{◌-◌, ◌*◌}
-use borrow.Author.Rules.{rules}
-use lib.ListN.{length}
-use Rattle.packed_bits.proofs.Unused.{ClearTo, clear_none, clear-more, clear-all, clear_not}
+use Rattle.packed_bits.proofs.Unused.{clear_none, clear-more, clear-all, clear_not}
 use Rattle.packed_bits.proofs.unused_clear.Goals as goal
 
 pub loop-k-init : goal.loop-k-init

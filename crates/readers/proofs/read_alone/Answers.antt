@@ -1,6 +1,5 @@
 -- `read_alone` meets its contract.
 use native.Mathlib.Omega.{arith}
-use borrow.Author.Rules.{rules}
 use Rattle.readers.proofs.read_alone.Goals as goal
 
 pub read_frame-requires : goal.read_frame-requires

@@ -1,4 +1,4 @@
--- The challenges still to be read are the measure.
+-- `challenges_of` is safe and ends: `k` stays within the challenges, and those still to be read are the measure.
 use Rattle.std.proofs.Common.{◌≤◌, ◌≡◌, ◌-◌, length}
 use Rattle.record_bytes.proofs.challenges_of.Given as goal
 

@@ -2,7 +2,6 @@
 use mathlib.Core.Path.{◌∙◌}
 use Prim.Native.Nat.{◌-◌}
 use native.Mathlib.Omega.{arith}
-use borrow.Author.Rules.{rules}
 use lib.ListN.{length, drop, length-drop}
 use lib.Seq.{take_all}
 use Rattle.register_input.proofs.behind.Goals as goal

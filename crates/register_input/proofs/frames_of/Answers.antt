@@ -2,7 +2,6 @@
 use mathlib.Core.Path.{sym}
 use Prim.Native.Nat.{◌-◌}
 use native.Mathlib.Omega.{arith}
-use borrow.Author.Rules.{rules}
 use lib.ListN.{length, drop, length-drop, drop_of_length-le}
 use lib.Seq.{take_all}
 use Rattle.register_input.proofs.frames_of.Goals as goal

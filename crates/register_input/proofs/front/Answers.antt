@@ -1,6 +1,5 @@
 -- `front` meets its contract: it cuts where the frame ends.
 use mathlib.Core.Path.{sym}
-use borrow.Author.Rules.{rules}
 use lib.Seq.{length-take-le}
 use Rattle.register_input.proofs.front.Goals as goal
 

@@ -1,6 +1,5 @@
 -- `front_end` meets its contract: where bytes are missing the frame is all that is left.
 use native.Mathlib.Omega.{arith}
-use borrow.Author.Rules.{rules}
 use Rattle.register_input.proofs.Cuts.{all_in_front, counted}
 use Rattle.register_input.proofs.front_end.Goals as goal
 

@@ -1,7 +1,6 @@
 -- `grade_of` meets its contract: an input without a byte has grade 0.
 use mathlib.Core.Path.{sym}
 use native.Mathlib.Omega.{arith}
-use borrow.Author.Rules.{rules}
 use lib.ListN.{get_or-eq_default}
 use Rattle.register_input.proofs.grade_of.Goals as goal
 

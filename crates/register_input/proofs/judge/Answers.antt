@@ -1,5 +1,4 @@
 -- `judge` meets its contract: it cuts as the definition does.
-use borrow.Author.Rules.{rules}
 use Rattle.register_input.specs.Cutting.{judging_input, sign_on_of}
 use Rattle.register_input.proofs.judge.Goals as goal
 

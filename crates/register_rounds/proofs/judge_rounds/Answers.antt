@@ -1,6 +1,5 @@
 -- `judge_rounds` meets its contract: the first round that does not pass decides, and its bit tells the number.
 use mathlib.Core.Path.{ap, ◌∙◌}
-use borrow.Author.Rules.{rules}
 use Rattle.register_rules.proofs.Facts.{bit_cut, bit-there}
 use Rattle.register_rules.proofs.Orders.{all_passed, round_failed}
 use Rattle.register_rules.specs.Verdict.{number_of}

@@ -1,6 +1,5 @@
 -- `rounds_passed` meets its contract: the bodies that it cuts are those of the frames.
 use mathlib.Core.Path.{◌∙◌}
-use borrow.Author.Rules.{rules}
 use Rattle.register_rules.proofs.Facts.{parts_fit, parts_passed}
 use Rattle.register_rules.specs.Verdict.{sign_on}
 use Rattle.register_rounds.proofs.rounds_passed.Goals as goal

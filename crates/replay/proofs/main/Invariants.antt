@@ -1,4 +1,4 @@
--- The cases still to come are the measure.
+-- `main` ends: the measure is the number of cases that it may still take.
 use Rattle.std.proofs.Common.{◌≤◌, ◌-◌}
 use Rattle.replay.proofs.main.Given as goal
 

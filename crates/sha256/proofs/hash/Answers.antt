@@ -2,7 +2,6 @@
 use mathlib.Core.List.{[]}
 use mathlib.Core.Path.{◌∙◌}
 use native.Mathlib.Omega.{arith}
-use borrow.Author.Rules.{rules}
 use Rattle.sha256.proofs.Call.{told-fine, told_long}
 use Rattle.sha256.proofs.hash.Goals as goal
 

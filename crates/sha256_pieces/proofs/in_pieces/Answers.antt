@@ -1,6 +1,5 @@
 -- `in_pieces` is the hash call itself where it is refused or not cut, and else has the digest by `pieces`.
 use native.Mathlib.Omega.{arith}
-use borrow.Author.Rules.{rules}
 use Rattle.sha256.proofs.Call.{told-fine}
 use Rattle.sha256_pieces.proofs.in_pieces.Goals as goal
 

@@ -1,13 +1,12 @@
 -- `pieces` has absorbed the first i bytes of the message after each turn, and all of them at the end.
 use mathlib.Core.List.{◌++◌}
 use mathlib.Core.Path.{◌≡◌}
-use Prim.Native.Nat.{◌+◌, ◌-◌, ◌≤◌}
+use Prim.Native.Nat.{◌+◌, ◌-◌}
 use native.Mathlib.Omega.{arith}
 use borrow.Author.Rules.{rules}
-use lib.ListN.{length, take, drop, take-append-drop}
+use lib.ListN.{take, drop, take-append-drop}
 use lib.Seq.{take-add}
 use Rattle.sha256.proofs.Absorbing.{rest_of}
-use Rattle.sha256.specs.Absorbed.{Absorbed}
 use Rattle.sha256_pieces.proofs.pieces.Goals as goal
 
 pub loop-i-init : goal.loop-i-init

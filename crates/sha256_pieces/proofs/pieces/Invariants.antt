@@ -1,12 +1,7 @@
 -- `pieces` has absorbed the first i bytes of the message after each turn, and all of them at the end.
-use mathlib.Core.List.{◌++◌}
 use mathlib.Core.Path.{◌≡◌}
-use Prim.Native.Nat.{◌+◌, ◌-◌, ◌≤◌}
-use native.Mathlib.Omega.{arith}
-use borrow.Author.Rules.{rules}
-use lib.ListN.{length, take, drop, take-append-drop}
-use lib.Seq.{take-add}
-use Rattle.sha256.proofs.Absorbing.{rest_of}
+use Prim.Native.Nat.{◌-◌, ◌≤◌}
+use lib.ListN.{length, take}
 use Rattle.sha256.specs.Absorbed.{Absorbed}
 use Rattle.sha256_pieces.proofs.pieces.Given as goal
 

@@ -1,5 +1,4 @@
 -- `sha256_in_pieces` hands on the digest of `in_pieces`, whose contract fixes it.
-use borrow.Author.Rules.{rules}
 use Rattle.sha256_pieces.proofs.sha256_in_pieces.Goals as goal
 
 pub returns : goal.returns

@@ -1,4 +1,4 @@
--- The bytes still to be printed are the measure.
+-- `print_digest` reads the 32 bytes in turn.
 use Rattle.std.proofs.Common.{◌≤◌, ◌-◌}
 use Rattle.sha256_vectors.proofs.print_digest.Given as goal
 

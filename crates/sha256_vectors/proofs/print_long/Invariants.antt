@@ -1,4 +1,4 @@
--- The lengths still to come are the measure.
+-- `print_long` lends the whole room, which keeps its length, for lengths that it has: a multiple of 64 below 65,536 has another byte after it.
 use Rattle.std.proofs.Common.{◌≤◌, ◌≡◌, ◌%◌, ◌-◌}
 use Rattle.sha256_vectors.proofs.print_long.Given as goal
 

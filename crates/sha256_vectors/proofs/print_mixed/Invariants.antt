@@ -1,4 +1,4 @@
--- The bytes still to be made are the measure.
+-- `print_mixed` writes and lends the first n bytes of the room, which keeps its length.
 use Rattle.std.proofs.Common.{◌≤◌, ◌≡◌, ◌-◌, length}
 use Rattle.sha256_vectors.proofs.print_mixed.Given as goal
 

@@ -1,4 +1,4 @@
--- The lengths still to come are the measure.
+-- `print_short` lends the whole room, which keeps its length, for lengths that it has.
 use Rattle.std.proofs.Common.{◌≤◌, ◌-◌}
 use Rattle.sha256_vectors.proofs.print_short.Given as goal
 

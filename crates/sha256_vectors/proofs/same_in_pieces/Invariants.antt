@@ -1,4 +1,4 @@
--- The pieces still to be tried are the measure.
+-- `same_in_pieces` divides by at least 2, and counts the pieces up to a bound.
 use Rattle.std.proofs.Common.{◌≤◌, ◌-◌}
 use Rattle.sha256_vectors.proofs.same_in_pieces.Given as goal
 

@@ -1,16 +1,12 @@
 -- `check_lent` meets its contract: the chain, as the code goes through it.
 -- past the system's frame
 use mathlib.Core.Path.{◌∙◌}
-use Prim.Native.Nat.{◌≤◌}
 use native.Mathlib.Omega.{arith}
-use borrow.Author.Rules.{rules}
-use Rattle.algebra.specs.Permutations.{longest}
-use Rattle.kinds.specs.Kinds.{alone, of_places}
-use Rattle.frames.specs.Reading.{first_of, Reads}
-use Rattle.frames.proofs.Facts.{FrameFits, frame-fits}
+use Rattle.kinds.specs.Kinds.{alone}
+use Rattle.frames.proofs.Facts.{frame-fits}
 use Rattle.readers.proofs.Passing.{system-fits}
 use Rattle.stand_in.proofs.Orders.{bad_challenge, bad-bit, bad_system, bad_key, choices-decide}
-use Rattle.kinds.specs.declared.Kind.TheVariants.{System, Public}
+use Rattle.kinds.specs.declared.Kind.TheVariants.{System}
 use Rattle.stand_in.proofs.check_lent.Goals as goal
 
 pub returns-then-c : goal.returns-then-c

@@ -3,7 +3,6 @@
 use mathlib.Core.Path.{refl, sym, ap, ◌∙◌}
 use mathlib.Core.List.{[]}
 use native.Mathlib.Omega.{arith}
-use borrow.Author.Rules.{rules}
 use lib.Seq.{length-take-le}
 use Rattle.refusals.specs.Told.{means}
 use Rattle.refusals.proofs.Chain.{goes_on, stops}
@@ -12,7 +11,7 @@ use Rattle.stand_in_round.specs.Bytes.{round_bytes}
 use Rattle.stand_in.specs.Standing.{standing}
 use Rattle.scheme.specs.Round.{Opened}
 use Rattle.writers.proofs.Writing.{no_room, room_enough}
-use Rattle.stand_in.proofs.Facts.{StandInFits, lent-told, parts_fit, parts_stand_in}
+use Rattle.stand_in.proofs.Facts.{lent-told, parts_fit, parts_stand_in}
 use Rattle.stand_in.proofs.stand_in.Goals as goal
 
 pub returns-in-Refused : goal.returns-in-Refused
@@ -25,9 +24,9 @@ bounds-system-4 c = let t = ((lent-told _ _ _ _ _ [] (sym c.check_lent.ensures �
 pub returns-then-out-need : goal.returns-then-out-need
 unfolding standing
 returns-then-out-need c = record {
-      says = goes_on c.check_lent.ensures c.in_default.is (no_room _ _ _ (omega (arith, c.wide-n.ensures.0)) c.if-out-need.true);
-      writes = refl;
-    }
+  says = goes_on c.check_lent.ensures c.in_default.is (no_room _ _ _ (omega (arith, c.wide-n.ensures.0)) c.if-out-need.true);
+  writes = refl;
+}
 
 pub bounds-system-5 : goal.bounds-system-5
 bounds-system-5 c = let t = ((lent-told _ _ _ _ _ [] (sym c.check_lent.ensures ∙ ap means c.in_default.is))).system_there in omega arith

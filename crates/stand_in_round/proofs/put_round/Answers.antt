@@ -2,7 +2,6 @@
 use mathlib.Core.Path.{subst}
 use Prim.Native.Nat.{ℕ}
 use native.Mathlib.Omega.{arith}
-use borrow.Author.Rules.{rules}
 use Rattle.algebra.specs.Permutations.{IsPerm}
 use Rattle.scheme.specs.Round.{system_of, pair}
 use Rattle.stand_in_round.proofs.Laid.{round_laid}

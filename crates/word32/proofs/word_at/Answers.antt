@@ -1,5 +1,5 @@
 -- `word_at` is the word of four bytes: each is below 256, so that no product and no sum wraps.
-use Rattle.std.proofs.Common.{◌+◌, refl, arith, rules}
+use Rattle.std.proofs.Common.{◌+◌, refl, arith}
 use Rattle.word32.specs.Operations.{word_at}
 use Rattle.word32.proofs.word_at.Goals as goal
 

@@ -1,8 +1,6 @@
 -- `check_plain` meets its contract: a law of the order for each answer.
 use mathlib.Core.Path.{sym, ◌∙◌}
 use native.Mathlib.Omega.{arith}
-use borrow.Author.Rules.{rules}
-use borrow.Author.Tests.{not-true, not-false}
 use Rattle.frames.proofs.Facts.{numbers-small}
 use Rattle.writers.proofs.Writing.{bad_numbers, bad-length, bad-content, bad-spare, good-plain}
 use Rattle.writers.proofs.check_plain.Goals as goal

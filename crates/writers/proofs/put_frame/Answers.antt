@@ -1,6 +1,5 @@
 -- `put_frame` meets its contract: the heading over the front, and the rest behind it.
 use mathlib.Core.Path.{ap, ◌∙◌}
-use borrow.Author.Rules.{rules}
 use Rattle.algebra.specs.Lists.{over_at}
 use Rattle.writers.proofs.Writing.{framed}
 use Rattle.writers.proofs.put_frame.Goals as goal

@@ -3,7 +3,6 @@ use mathlib.Core.Path.{sym, ap, ◌∙◌}
 use mathlib.Core.List.{List}
 use Prim.Native.Nat.{ℕ, ◌+◌, ◌-◌}
 use native.Mathlib.Omega.{arith}
-use borrow.Author.Rules.{rules}
 use Rattle.algebra.specs.Lists.{over}
 use Rattle.writers.proofs.Writing.{laid-fits, laid-heading, laid-length}
 use Rattle.writers.proofs.put_heading.Goals as goal

@@ -3,13 +3,12 @@
 use mathlib.Core.Path.{refl, sym, ap, ◌∙◌}
 use mathlib.Core.List.{[]}
 use native.Mathlib.Omega.{arith}
-use borrow.Author.Rules.{rules}
 use Rattle.refusals.specs.Told.{means}
 use Rattle.refusals.proofs.Chain.{goes_on, stops}
 use Rattle.kinds.specs.Kinds.{frame_size}
 use Rattle.writers.specs.Writing.{writing}
 use Rattle.frames.proofs.Facts.{numbers-small, size_small}
-use Rattle.writers.proofs.Writing.{Plain, plain_told, no_room, room_enough}
+use Rattle.writers.proofs.Writing.{plain_told, no_room, room_enough}
 use Rattle.writers.proofs.write_frame.Goals as goal
 
 pub returns-in-Refused : goal.returns-in-Refused

@@ -1,5 +1,4 @@
 -- `compose_into` meets its contract: the product στ is σ_τ.
-use borrow.Author.Rules.{rules}
 use Rattle.algebra.proofs.permutation.compose_into.Goals as goal
 
 pub returns : goal.returns

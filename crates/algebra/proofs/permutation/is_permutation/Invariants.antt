@@ -1,12 +1,9 @@
 -- `is_permutation` meets its contract: a mark is set where the value was seen, and then it was seen once; what was seen is below n.
-use mathlib.Core.Path.{◌≡◌, refl, ap, ◌∙◌}
-use mathlib.Core.Bool.{Bool, cond}
+use mathlib.Core.Path.{◌≡◌}
 use Prim.Native.Nat.{◌-◌, ◌≤◌}
-use native.Mathlib.Omega.{arith}
-use borrow.Author.Rules.{rules}
-use lib.ListN.{length, length-set}
+use lib.ListN.{length}
 use Rattle.algebra.specs.Permutations.{longest}
-use Rattle.algebra.proofs.Marks.{no_place, seen_before, Marked, marked_none, marked_more, all_seen}
+use Rattle.algebra.proofs.Marks.{Marked}
 use Rattle.algebra.proofs.permutation.is_permutation.Given as goal
 
 abbrev pub invariant-loop-i : goal.invariant-loop-i

@@ -1,11 +1,7 @@
 -- `permute_into` meets its contract: V_θ is the table of its entries, written one a turn.
-use mathlib.Core.Path.{refl}
 use Prim.Native.Nat.{ℕ, ◌-◌, ◌≤◌}
-use native.Mathlib.Omega.{arith}
-use borrow.Author.Rules.{rules}
 use lib.ListN.{length, get_or}
-use Rattle.algebra.proofs.Lists.{Tabulated, tabulated_none, tabulated_more, tabulated_all}
-use Rattle.algebra.proofs.Permutations.{below, tab-permute}
+use Rattle.algebra.proofs.Lists.{Tabulated}
 use Rattle.algebra.proofs.permutation.permute_into.Given as goal
 
 abbrev pub invariant-loop-j : goal.invariant-loop-j

@@ -1,9 +1,7 @@
 -- `unpermute_into` meets its contract: after j turns what was written at σ[i] is W[i], for i below j, and no place at n or above was touched.
 use Prim.Native.Nat.{◌-◌, ◌≤◌}
-use native.Mathlib.Omega.{arith}
-use borrow.Author.Rules.{rules}
 use lib.ListN.{length}
-use Rattle.algebra.proofs.Permutations.{below, Laid, laid_none, laid_more, laid-all}
+use Rattle.algebra.proofs.Permutations.{Laid}
 use Rattle.algebra.proofs.permutation.unpermute_into.Given as goal
 
 abbrev pub invariant-loop-j : goal.invariant-loop-j

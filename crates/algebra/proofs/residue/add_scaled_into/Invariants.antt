@@ -1,11 +1,8 @@
 -- `add_scaled_into` meets its contract: R + c·V is the table of its entries, written one a turn.
 use Prim.Native.Nat.{ℕ, ◌-◌, ◌≤◌}
-use native.Mathlib.Omega.{arith}
-use borrow.Author.Rules.{rules}
 use lib.ListN.{length, get_or}
 use Rattle.algebra.specs.Residues.{modulus, plus_times}
-use Rattle.algebra.proofs.Lists.{Tabulated, tabulated_none, tabulated_more, tabulated_all}
-use Rattle.algebra.proofs.Vectors.{tab-add_scaled}
+use Rattle.algebra.proofs.Lists.{Tabulated}
 use Rattle.algebra.proofs.residue.add_scaled_into.Given as goal
 
 abbrev pub invariant-loop-j : goal.invariant-loop-j

@@ -1,6 +1,5 @@
 -- `plus_times` meets its contract: a product of two bytes and one byte more fit 32 bits.
 use native.Mathlib.Omega.{arith}
-use borrow.Author.Rules.{rules}
 use Rattle.algebra.proofs.Sums.{byte_mul}
 use Rattle.algebra.proofs.residue.plus_times.Goals as goal
 

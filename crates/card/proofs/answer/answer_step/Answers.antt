@@ -4,10 +4,8 @@ use mathlib.Core.Path.{refl, sym, ap, ◌∙◌}
 use mathlib.Core.List.{List, []}
 use Prim.Native.Nat.{ℕ, ◌≤◌}
 use native.Mathlib.Omega.{arith}
-use borrow.Author.Rules.{rules}
-use lib.ListN.{length}
 use Rattle.algebra.specs.Lists.{over}
-use Rattle.card_rules.proofs.Facts.{AnswerFits, answer-told}
+use Rattle.card_rules.proofs.Facts.{answer-told}
 use Rattle.card_rules.specs.Keys.{keys, places_of}
 use Rattle.card_steps.proofs.Parts.{answers-formed, card-parts, challenges-sent}
 use Rattle.card_steps.specs.Steps.{answer_told, answered}

@@ -2,7 +2,6 @@
 use mathlib.Core.Path.{ap}
 use mathlib.Core.List.{List}
 use Prim.Native.Nat.{ℕ}
-use borrow.Author.Rules.{rules}
 use Rattle.card_rules.specs.Stages.{ANSWERED}
 use Rattle.card_steps.specs.Steps.{answered}
 use Rattle.card.proofs.answer.with_challenges.Goals as goal

@@ -4,10 +4,8 @@ use mathlib.Core.Path.{refl, sym, ap, ◌∙◌}
 use mathlib.Core.List.{List, []}
 use Prim.Native.Nat.{ℕ}
 use native.Mathlib.Omega.{arith}
-use borrow.Author.Rules.{rules}
-use lib.ListN.{length}
 use Rattle.algebra.specs.Lists.{over}
-use Rattle.card_rules.proofs.Facts.{BeginFits, begin-told}
+use Rattle.card_rules.proofs.Facts.{begin-told}
 use Rattle.card_rules.specs.Keys.{keys}
 use Rattle.card_steps.proofs.Parts.{commitments-formed, key-parts, system_part}
 use Rattle.card_steps.specs.Steps.{begin_told, begun}

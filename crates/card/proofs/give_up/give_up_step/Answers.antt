@@ -1,6 +1,5 @@
 -- `give_up_step` meets its contract: nothing is asked.
 use mathlib.Core.Path.{refl}
-use borrow.Author.Rules.{rules}
 use Rattle.card_steps.specs.Steps.{fresh}
 use Rattle.card.proofs.give_up.give_up_step.Goals as goal
 

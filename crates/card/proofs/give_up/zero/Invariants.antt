@@ -1,11 +1,8 @@
 -- `zero` meets its contract: zeros up to i, and the rest as it was.
-use mathlib.Core.Path.{◌≡◌, refl, ◌∙◌}
-use mathlib.Core.List.{◌++◌, append-nil}
+use mathlib.Core.Path.{◌≡◌}
+use mathlib.Core.List.{◌++◌}
 use Prim.Native.Nat.{◌-◌, ◌≤◌}
-use native.Mathlib.Omega.{arith}
-use lib.ListN.{length, drop, replicate, length-set}
-use lib.Seq.{drop-length}
-use borrow.Author.Fill.{fill_more, fill_none}
+use lib.ListN.{length, drop, replicate}
 use Rattle.card.proofs.give_up.zero.Given as goal
 
 abbrev pub invariant-loop-i : goal.invariant-loop-i

@@ -1,7 +1,6 @@
 -- `check_all` meets its contract: the checks, then SELF.
 use mathlib.Core.Path.{sym, ap, ◌∙◌}
 use mathlib.Core.List.{[]}
-use borrow.Author.Rules.{rules}
 use Rattle.card_rules.proofs.Facts.{open_told_lem}
 use Rattle.card_steps.proofs.Opening.{open_ready}
 use Rattle.card_steps.specs.Steps.{open_refusal}

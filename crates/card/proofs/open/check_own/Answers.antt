@@ -1,7 +1,6 @@
 -- `check_own` meets its contract: the rounds formed anew, and the first that does not pass.
 use mathlib.Core.Path.{refl, ◌∙◌}
 use native.Mathlib.Omega.{arith}
-use borrow.Author.Rules.{rules}
 use Rattle.card_rules.specs.Keys.{keys}
 use Rattle.card_steps.proofs.Opening.{faulty_formed, own-fails, own-holds}
 use Rattle.card_steps.proofs.Parts.{card-parts, system_part}

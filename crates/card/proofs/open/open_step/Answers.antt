@@ -4,10 +4,7 @@ use mathlib.Core.Path.{refl, sym, ap, ◌∙◌}
 use mathlib.Core.List.{List, []}
 use Prim.Native.Nat.{ℕ, ◌≤◌}
 use native.Mathlib.Omega.{arith}
-use borrow.Author.Rules.{rules}
-use lib.ListN.{length}
 use Rattle.algebra.specs.Lists.{over}
-use Rattle.card_rules.proofs.Facts.{OpenFits}
 use Rattle.card_rules.specs.Keys.{keys, places_of}
 use Rattle.card_steps.proofs.Opening.{refusal-told}
 use Rattle.card_steps.proofs.Parts.{bits-sent, key-parts, openings-formed}

@@ -1,7 +1,6 @@
 -- `check_key` meets its contract: the frames, then KEY.
 use mathlib.Core.Path.{sym, ap, ◌∙◌}
 use mathlib.Core.List.{[]}
-use borrow.Author.Rules.{rules}
 use Rattle.card_rules.proofs.Facts.{keys-told}
 use Rattle.card_rules.specs.Keys.{key_check}
 use Rattle.refusals.proofs.Chain.{goes_on, stops}

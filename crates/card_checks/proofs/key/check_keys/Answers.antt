@@ -1,12 +1,9 @@
 -- `check_keys` meets its contract: the chain, as the code goes through it.
 -- past the system's frame
-use Prim.Native.Nat.{◌≤◌}
 use native.Mathlib.Omega.{arith}
-use borrow.Author.Rules.{rules}
-use Rattle.algebra.specs.Permutations.{longest}
 use Rattle.card_rules.proofs.Orders.{bad-public, bad-secret, bad_system, good-keys}
 use Rattle.card_rules.specs.Keys.{keys}
-use Rattle.frames.proofs.Facts.{FrameFits, frame-fits}
+use Rattle.frames.proofs.Facts.{frame-fits}
 use Rattle.readers.proofs.Passing.{system-fits}
 use Rattle.kinds.specs.Kinds.{alone}
 use Rattle.kinds.specs.declared.Kind.TheVariants.{System}

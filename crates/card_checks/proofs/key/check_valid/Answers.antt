@@ -1,7 +1,6 @@
 -- `check_valid` meets its contract: the first row that is not zero, or none.
 use mathlib.Core.Path.{◌∙◌}
 use native.Mathlib.Omega.{arith}
-use borrow.Author.Rules.{rules}
 use Rattle.card_rules.proofs.Facts.{parts_fault, parts_fit}
 use Rattle.card_rules.proofs.Orders.{bad_key, good-key}
 use Rattle.card_rules.specs.Keys.{keys}

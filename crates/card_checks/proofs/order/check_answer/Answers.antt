@@ -4,14 +4,11 @@ use mathlib.Core.Path.{sym, ap, ◌∙◌}
 use mathlib.Core.List.{[]}
 use Prim.Native.Nat.{◌≤◌}
 use native.Mathlib.Omega.{arith}
-use borrow.Author.Rules.{rules}
-use borrow.Author.Tests.{eq-eqb, ne_eqb, not-false, not-true}
+use borrow.Author.Tests.{eq-eqb, ne_eqb}
 use Rattle.card_rules.proofs.Facts.{keys-told}
 use Rattle.card_rules.proofs.Orders.{test_goes_on, test_stops}
 use Rattle.card_rules.proofs.Records.{record_told}
 use Rattle.card_rules.specs.Asking.{answer_check}
-use Rattle.card_rules.specs.Keys.{keys}
-use Rattle.card_rules.specs.Lent.{KeysFit}
 use Rattle.card_rules.specs.Stages.{COMMITTED}
 use Rattle.frames.proofs.Facts.{size_small}
 use Rattle.frames.proofs.Orders.{frame_goes_on, frame-stops}

@@ -3,13 +3,9 @@
 use mathlib.Core.Path.{sym, ap, ◌∙◌}
 use mathlib.Core.List.{[]}
 use native.Mathlib.Omega.{arith}
-use borrow.Author.Rules.{rules}
-use borrow.Author.Tests.{not-false, not-true}
 use Rattle.card_rules.proofs.Facts.{keys-told}
 use Rattle.card_rules.proofs.Orders.{test_goes_on, test_stops}
 use Rattle.card_rules.specs.Asking.{begin_check}
-use Rattle.card_rules.specs.Keys.{keys}
-use Rattle.card_rules.specs.Lent.{KeysFit}
 use Rattle.frames.proofs.Facts.{within-told}
 use Rattle.kinds.specs.Kinds.{alone}
 use Rattle.refusals.proofs.Chain.{goes_on, stops}

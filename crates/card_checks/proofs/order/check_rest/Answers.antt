@@ -1,7 +1,6 @@
 -- `check_rest` meets its contract: the chain, as the code goes through it.
 use mathlib.Core.Path.{◌∙◌, sym}
 use native.Mathlib.Omega.{arith}
-use borrow.Author.Rules.{rules}
 use Rattle.card_rules.proofs.Orders.{no_room, room_enough, rest_in_order}
 use Rattle.refusals.proofs.Chain.{goes_on, stops}
 use Rattle.card_checks.proofs.order.check_rest.Goals as goal

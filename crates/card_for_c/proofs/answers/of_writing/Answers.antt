@@ -1,5 +1,4 @@
 -- `of_writing` meets its contract in both cases.
-use borrow.Author.Rules.{rules}
 use Rattle.card_for_c.proofs.answers.of_writing.Goals as goal
 
 pub returns-in-Wrote : goal.returns-in-Wrote

@@ -1,5 +1,4 @@
 -- `answer_for_c` is `answer_step`, whose contract fixes all but how the answer is written.
-use borrow.Author.Rules.{rules}
 use Rattle.card_for_c.proofs.ForC.{answer-for-c}
 use Rattle.card_for_c.proofs.steps.answer_for_c.Goals as goal
 

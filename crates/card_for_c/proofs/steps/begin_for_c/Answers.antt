@@ -1,5 +1,4 @@
 -- `begin_for_c` is `begin_step`, whose contract fixes all but how the answer is written.
-use borrow.Author.Rules.{rules}
 use Rattle.card_for_c.proofs.ForC.{begin_for_c}
 use Rattle.card_for_c.proofs.steps.begin_for_c.Goals as goal
 

@@ -1,5 +1,4 @@
 -- `open_for_c` is `open_step`, whose contract fixes all but how the answer is written.
-use borrow.Author.Rules.{rules}
 use Rattle.card_for_c.proofs.ForC.{open-for-c}
 use Rattle.card_for_c.proofs.steps.open_for_c.Goals as goal
 

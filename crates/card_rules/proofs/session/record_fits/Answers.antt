@@ -1,6 +1,5 @@
 -- `record_fits` meets its contract: a test a field.
 use mathlib.Core.Path.{sym, ◌∙◌}
-use borrow.Author.Rules.{rules}
 use Rattle.card_rules.proofs.Records.{other_places, other_rows, rounds_decide}
 use Rattle.card_rules.proofs.session.record_fits.Goals as goal
 

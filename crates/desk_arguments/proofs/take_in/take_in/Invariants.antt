@@ -1,4 +1,4 @@
--- The arguments still to be taken in are the measure.
+-- `take_in` is safe and ends: the arguments still to be taken in are the measure.
 use Rattle.std.proofs.Common.{◌-◌, ◌≤◌}
 use Rattle.desk_arguments.proofs.take_in.take_in.Given as goal
 

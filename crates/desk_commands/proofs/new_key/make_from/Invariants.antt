@@ -1,4 +1,4 @@
--- The tries that are left are the measure.
+-- `make_from` ends: the tries that are left are the measure.
 use Rattle.std.proofs.Common.{◌≤◌, ◌-◌}
 use Rattle.desk_commands.proofs.new_key.make_from.Given as goal
 

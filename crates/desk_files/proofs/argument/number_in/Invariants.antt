@@ -1,4 +1,4 @@
--- From each place on, what is left of the text says the same after the value so far.
+-- `number_in` meets its contract: from each place on, what is left of the text says the same after the value so far.
 use Rattle.std.proofs.Common.{length, drop, ◌-◌, ◌≡◌, ◌≤◌}
 use Rattle.desk_files.specs.Numbers.{number_from, number_in}
 use Rattle.desk_files.proofs.argument.number_in.Given as goal

@@ -1,4 +1,4 @@
--- What has come is at the front of the room, and what is left of the room gets smaller.
+-- `read_full` meets its contract: what has come is at the front of the room, and what is left of the room gets smaller.
 use Rattle.std.proofs.Common.{length, ◌-◌, ◌≤◌}
 use Rattle.desk_files.proofs.path.read_full.Given as goal
 

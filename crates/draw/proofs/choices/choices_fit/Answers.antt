@@ -1,6 +1,4 @@
 -- `choices_fit` meets its contract: n, then N.
-use borrow.Author.Rules.{rules}
-use borrow.Author.Tests.{not-true, not-false}
 use Rattle.draw.proofs.choices.choices_fit.Goals as goal
 
 pub returns-then-not-places_fit : goal.returns-then-not-places_fit

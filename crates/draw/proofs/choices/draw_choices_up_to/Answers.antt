@@ -2,8 +2,6 @@
 use mathlib.Core.Path.{sym, ◌∙◌}
 use mathlib.Core.List.{[]}
 use native.Mathlib.Omega.{arith}
-use borrow.Author.Rules.{rules}
-use borrow.Author.Tests.{not-true, not-false}
 use Rattle.random.proofs.Drawings.{enough_of}
 use Rattle.algebra.proofs.Sums.{byte_mul}
 use Rattle.readers.specs.Choosing.{choice_size}

@@ -1,6 +1,5 @@
 -- `measure_choice` meets its contract: R, and from the place after it σ.
 use mathlib.Core.Path.{sym, ◌∙◌}
-use borrow.Author.Rules.{rules}
 use Rattle.random.specs.Drawings.{draw_permutation}
 use Rattle.draw_rules.specs.Making.{draw_choice}
 use Rattle.random.specs.Sequences.{draw_residues}

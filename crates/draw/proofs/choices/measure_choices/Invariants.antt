@@ -1,12 +1,9 @@
 -- `measure_choices` meets its contract: p is the place after the first k rounds.
-use mathlib.Core.Path.{◌≡◌, sym, ap, ◌∙◌}
-use Prim.Native.Nat.{ℕ, ◌-◌, ◌≤◌}
-use native.Mathlib.Omega.{arith}
-use borrow.Author.Rules.{rules}
+use mathlib.Core.Path.{◌≡◌}
+use Prim.Native.Nat.{◌-◌, ◌≤◌}
 use Rattle.random.specs.Drawings.{used_by}
-use Rattle.draw_rules.specs.Making.{draw_choice, draw_choices}
+use Rattle.draw_rules.specs.Making.{draw_choice}
 use Rattle.random.specs.Sequences.{many_times}
-use Rattle.random.proofs.Sequences.{times_none, times_ends, measured_more}
 use Rattle.random.specs.declared.draw.Used.TheVariants.{To}
 use Rattle.draw.proofs.choices.measure_choices.Given as goal
 

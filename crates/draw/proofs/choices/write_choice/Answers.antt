@@ -21,11 +21,11 @@ write_below-p-requires c = (enough-first (draw_residues c.args.n c.args.random.n
 pub write_permutation-requires : goal.write_permutation-requires
 unfolding draw_choice
 write_permutation-requires c = (
-      enough_next (draw_residues c.args.n c.args.random.now c.args.at) (draw_permutation c.args.n c.args.random.now) _ c.requires.0 c.write_below-p.ensures.0,
-      search rules,
-      search rules,
-      search rules,
-    )
+  enough_next (draw_residues c.args.n c.args.random.now c.args.at) (draw_permutation c.args.n c.args.random.now) _ c.requires.0 c.write_below-p.ensures.0,
+  search rules,
+  search rules,
+  search rules,
+)
 
 pub returns : goal.returns
 unfolding draw_choice

@@ -1,7 +1,7 @@
 -- `write_choices` meets its contract: the first k rounds stand over the front.
 use mathlib.Core.Path.{◌≡◌, sym, ap, ◌∙◌, subst}
 use mathlib.Core.List.{List}
-use Prim.Native.Nat.{ℕ, ◌-◌, ◌*◌, ◌≤◌}
+use Prim.Native.Nat.{ℕ, ◌-◌}
 use native.Mathlib.Nat.{zero-mul, suc-mul}
 use native.Mathlib.Numerals.{add-one}
 use native.Mathlib.Omega.{arith}
@@ -15,7 +15,7 @@ use Rattle.readers.specs.Choosing.{choice_size}
 use Rattle.readers.proofs.Passing.{Chosen}
 use Rattle.draw_rules.specs.Making.{draw_choice, draw_choices}
 use Rattle.draw_rules.proofs.Making.{choice_chosen}
-use Rattle.random.proofs.Sequences.{drew_of, behind, Written, written_none, written_more, written_enough, written_all, Always, written_each}
+use Rattle.random.proofs.Sequences.{drew_of, behind, written_none, written_more, written_enough, written_all, Always, written_each}
 use Rattle.draw.proofs.choices.write_choices.Goals as goal
 
 pub loop-k-init : goal.loop-k-init

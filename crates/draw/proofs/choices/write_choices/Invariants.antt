@@ -1,21 +1,9 @@
 -- `write_choices` meets its contract: the first k rounds stand over the front.
-use mathlib.Core.Path.{◌≡◌, sym, ap, ◌∙◌, subst}
-use mathlib.Core.List.{List}
-use Prim.Native.Nat.{ℕ, ◌-◌, ◌*◌, ◌≤◌}
-use native.Mathlib.Nat.{zero-mul, suc-mul}
-use native.Mathlib.Numerals.{add-one}
-use native.Mathlib.Omega.{arith}
-use borrow.Author.Rules.{rules}
-use lib.ListN.{length}
-use borrow.Rule.Slice.PartMut.{mid_of}
-use Rattle.random.specs.Drawings.{Drawing, drawn_over}
-use Rattle.algebra.proofs.Lists.{stretch-fits}
-use Rattle.algebra.proofs.Sums.{byte_mul}
+use mathlib.Core.Path.{◌≡◌}
+use Prim.Native.Nat.{◌-◌, ◌*◌, ◌≤◌}
 use Rattle.readers.specs.Choosing.{choice_size}
-use Rattle.readers.proofs.Passing.{Chosen}
-use Rattle.draw_rules.specs.Making.{draw_choice, draw_choices}
-use Rattle.draw_rules.proofs.Making.{choice_chosen}
-use Rattle.random.proofs.Sequences.{drew_of, behind, Written, written_none, written_more, written_enough, written_all, Always, written_each}
+use Rattle.draw_rules.specs.Making.{draw_choice}
+use Rattle.random.proofs.Sequences.{Written}
 use Rattle.draw.proofs.choices.write_choices.Given as goal
 
 abbrev pub invariant-loop-k : goal.invariant-loop-k

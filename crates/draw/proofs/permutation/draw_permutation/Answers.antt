@@ -2,8 +2,6 @@
 use mathlib.Core.Path.{sym, ◌∙◌}
 use mathlib.Core.List.{[]}
 use native.Mathlib.Omega.{arith}
-use borrow.Author.Rules.{rules}
-use borrow.Author.Tests.{not-true, not-false}
 use Rattle.random.specs.Drawings.{draw_permutation}
 use Rattle.random.proofs.Drawings.{untouched}
 use Rattle.kinds.specs.Kinds.{within, alone}

@@ -1,4 +1,4 @@
--- The bits still to be said are the measure.
+-- `say_bits` ends: the bits still to be said are the measure.
 use Rattle.std.proofs.Common.{◌≤◌, ◌-◌}
 use Rattle.frame_words.proofs.values.say_bits.Given as goal
 

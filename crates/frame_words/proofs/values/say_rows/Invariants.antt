@@ -1,4 +1,4 @@
--- What is left of the bytes is the measure.
+-- `say_rows` is safe and ends: what is left of the bytes is the measure.
 use Rattle.std.proofs.Common.{◌≤◌, ◌-◌, length}
 use Rattle.frame_words.proofs.values.say_rows.Given as goal
 

@@ -1,7 +1,6 @@
 -- `check_header` meets its contract: a law of the order for each answer.
 use mathlib.Core.Path.{sym, ◌∙◌}
 use native.Mathlib.Omega.{arith}
-use borrow.Author.Rules.{rules}
 use Rattle.frames.proofs.Orders.{too_few, too_short, too_long, other-version, other-kind, headed}
 use Rattle.frames.proofs.read.check_header.Goals as goal
 

@@ -1,5 +1,4 @@
 -- `check_shape` meets its contract.
-use borrow.Author.Rules.{rules}
 use Rattle.frames.proofs.read.check_shape.Goals as goal
 
 pub returns-then-shape_fits : goal.returns-then-shape_fits

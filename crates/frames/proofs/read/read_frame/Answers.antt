@@ -3,13 +3,12 @@
 use mathlib.Core.Path.{sym, ap, ap₂, ◌∙◌}
 use mathlib.Core.List.{[], ◌∷◌}
 use native.Mathlib.Omega.{arith}
-use borrow.Author.Rules.{rules}
 use lib.ListN.{length, length-drop}
 use Rattle.refusals.specs.Told.{done, means}
 use Rattle.refusals.proofs.Chain.{goes_on, stops, demand_done}
 use Rattle.kinds.specs.Kinds.{table}
 use Rattle.frames.specs.Reading.{first_of, second_of, reading}
-use Rattle.frames.proofs.Facts.{Headed, header-told, first_modest, Shaped, shape-told, rest-length, start_five}
+use Rattle.frames.proofs.Facts.{header-told, first_modest, shape-told, rest-length, start_five}
 use Rattle.frames.proofs.Orders.{rest_part, content-read, numbers-read}
 use Rattle.frames.proofs.read.read_frame.Goals as goal
 
@@ -25,9 +24,9 @@ check_shape-requires c = let w = ((header-told _ _ [] (sym c.check_header.ensure
 pub returns-in-Refused-check_shape : goal.returns-in-Refused-check_shape
 unfolding reading
 returns-in-Refused-check_shape c = record {
-      says = goes_on c.check_header.ensures c.in_default.is
-          (stops _ c.check_shape.ensures c.in-Refused-check_shape.is);
-    }
+  says = goes_on c.check_header.ensures c.in_default.is
+      (stops _ c.check_shape.ensures c.in-Refused-check_shape.is);
+}
 
 pub bounds-s-4 : goal.bounds-s-4
 bounds-s-4 c = let h = ((shape-told _ _ _ (demand_done _ _ _ _ [] (sym c.check_shape.ensures ∙ ap means c.in_default-check_shape.is)))).there in let f = start_five c.args.kind in omega arith

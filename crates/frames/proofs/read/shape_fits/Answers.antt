@@ -1,8 +1,6 @@
 -- `shape_fits` meets its contract: a law of the order for each answer.
 use mathlib.Core.Path.{sym, ap, ◌∙◌}
 use native.Mathlib.Omega.{arith}
-use borrow.Author.Rules.{rules}
-use borrow.Author.Tests.{not-true, not-false}
 use Rattle.bodies.specs.Bodies.{spare_clear}
 use Rattle.frames.proofs.Orders.{rest_part, number_missing, numbers_differ, size_differs, spare_decides}
 use Rattle.frames.proofs.read.shape_fits.Goals as goal

@@ -1,11 +1,8 @@
 -- `draw_below` meets its contract: from each place on, what is left of the bytes gives the same drawing.
-use mathlib.Core.Path.{◌≡◌, refl, sym, ◌∙◌}
+use mathlib.Core.Path.{◌≡◌}
 use Prim.Native.Nat.{◌-◌}
-use native.Mathlib.Omega.{arith}
-use borrow.Author.Rules.{rules}
 use lib.ListN.{length, drop}
 use Rattle.random.specs.Drawings.{draw_left, draw_below}
-use Rattle.random.proofs.Drawings.{draw_end, draw_hit, draw_skip}
 use Rattle.random.proofs.draw.draw_below.Given as goal
 
 abbrev pub invariant-loop-i : goal.invariant-loop-i

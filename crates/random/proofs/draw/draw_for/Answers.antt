@@ -1,6 +1,5 @@
 -- `draw_for` meets its contract: the largest multiple fits.
 use native.Mathlib.Omega.{arith}
-use borrow.Author.Rules.{rules}
 use Rattle.random.proofs.Drawings.{largest_multiple-le}
 use Rattle.random.proofs.draw.draw_for.Goals as goal
 

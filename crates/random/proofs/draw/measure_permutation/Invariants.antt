@@ -1,10 +1,8 @@
 -- `measure_permutation` meets its contract: from each place on, the bytes to come are those that the whole drawing uses, whatever list is shuffled.
-use mathlib.Core.Path.{◌≡◌, refl, sym, ap, ◌∙◌}
+use mathlib.Core.Path.{◌≡◌}
 use Prim.Native.Nat.{◌-◌, ◌≤◌}
-use borrow.Author.Rules.{rules}
 use Rattle.random.specs.Drawings.{shuffle, draw_permutation, used_by}
 use Rattle.algebra.specs.Permutations.{identity}
-use Rattle.random.proofs.Drawings.{shuffle-more, shuffle_short, shuffle_done, shuffle_used}
 use Rattle.random.proofs.draw.measure_permutation.Given as goal
 
 abbrev pub invariant-loop-i : goal.invariant-loop-i

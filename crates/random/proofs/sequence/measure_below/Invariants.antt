@@ -1,11 +1,8 @@
 -- `measure_below` meets its contract: p is the place after the first j of them.
-use mathlib.Core.Path.{◌≡◌, sym, ap, ◌∙◌}
-use Prim.Native.Nat.{ℕ, ◌-◌, ◌≤◌}
-use native.Mathlib.Omega.{arith}
-use borrow.Author.Rules.{rules}
+use mathlib.Core.Path.{◌≡◌}
+use Prim.Native.Nat.{◌-◌, ◌≤◌}
 use Rattle.random.specs.Drawings.{used_by}
 use Rattle.random.specs.Sequences.{some_below}
-use Rattle.random.proofs.Sequences.{times_none, times_ends, measured_more, one_got, one_short}
 use Rattle.random.specs.declared.draw.Used.TheVariants.{To}
 use Rattle.random.proofs.sequence.measure_below.Given as goal
 

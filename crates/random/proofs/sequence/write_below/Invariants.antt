@@ -1,14 +1,7 @@
 -- `write_below` meets its contract: the first j of them stand over the front.
-use mathlib.Core.Path.{sym, ap, ◌∙◌, subst}
-use mathlib.Core.List.{List}
-use Prim.Native.Nat.{ℕ, ◌-◌, ◌≤◌}
-use native.Mathlib.Omega.{arith}
-use borrow.Author.Rules.{rules}
-use lib.ListN.{set, length-set}
-use Rattle.random.specs.Drawings.{Enough}
-use Rattle.algebra.proofs.Lists.{over-more}
+use Prim.Native.Nat.{◌-◌, ◌≤◌}
 use Rattle.random.specs.Sequences.{one_below}
-use Rattle.random.proofs.Sequences.{Written, written_none, written_more, written_enough, written_all, one_got, one_short, written_bytes}
+use Rattle.random.proofs.Sequences.{Written}
 use Rattle.random.proofs.sequence.write_below.Given as goal
 
 abbrev pub invariant-loop-j : goal.invariant-loop-j

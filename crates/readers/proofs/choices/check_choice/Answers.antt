@@ -2,7 +2,6 @@
 use mathlib.Core.Path.{◌≡◌, sym}
 use Prim.Native.Nat.{◌+◌, ◌-◌}
 use native.Mathlib.Omega.{arith}
-use borrow.Author.Rules.{rules}
 use lib.Seq.{length-take-le}
 use Rattle.refusals.proofs.Chain.{goes_on, stops}
 use Rattle.readers.specs.Choosing.{vector_of, permutation_of, choice_check}

@@ -1,6 +1,5 @@
 -- `check_opening` meets its contract: the frame, then the round.
 use mathlib.Core.Path.{sym, ap, ◌∙◌}
-use borrow.Author.Rules.{rules}
 use Rattle.frames.specs.Reading.{read_means}
 use Rattle.readers.proofs.OpeningLaws.{rounds-read, no_frame, no_round, a_round}
 use Rattle.readers.proofs.opening.check_opening.Goals as goal

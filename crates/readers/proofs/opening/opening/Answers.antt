@@ -2,16 +2,10 @@
 -- past the check
 use mathlib.Core.Path.{sym, ap, ◌∙◌}
 use mathlib.Core.List.{[]}
-use Prim.Native.Nat.{◌+◌, ◌*◌, ◌≤◌, ◌<◌}
 use native.Mathlib.Omega.{arith}
-use borrow.Author.Rules.{rules}
-use lib.ListN.{length}
 use Rattle.refusals.specs.Told.{means}
-use Rattle.kinds.specs.Kinds.{alone}
-use Rattle.frames.specs.Reading.{second_of, opening_of}
-use Rattle.frames.proofs.Facts.{Shaped}
+use Rattle.frames.specs.Reading.{opening_of}
 use Rattle.readers.proofs.OpeningLaws.{opening-told, opening-cut, opening_ends}
-use Rattle.kinds.specs.declared.Kind.TheVariants.{Openings}
 use Rattle.readers.proofs.opening.opening.Goals as goal
 
 pub returns-in-Refused : goal.returns-in-Refused

@@ -2,11 +2,10 @@
 -- past the system's frame
 use mathlib.Core.Path.{refl}
 use native.Mathlib.Omega.{arith}
-use borrow.Author.Rules.{rules}
-use Rattle.frames.proofs.Facts.{FrameFits, frame-fits}
+use Rattle.frames.proofs.Facts.{frame-fits}
 use Rattle.frames.proofs.Orders.{frame_goes_on, frame-stops}
 use Rattle.readers.proofs.Passing.{system-fits}
-use Rattle.kinds.specs.Kinds.{Modest, alone}
+use Rattle.kinds.specs.Kinds.{alone}
 use Rattle.kinds.specs.declared.Kind.TheVariants.{System}
 use Rattle.register_rules.specs.Verdict.{basis_check}
 use Rattle.register.proofs.check.check_basis.Goals as goal

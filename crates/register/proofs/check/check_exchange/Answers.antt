@@ -1,9 +1,7 @@
 -- `check_exchange` meets its contract: the chain, as the code goes through it.
 -- n and N are at most 64
 use mathlib.Core.Path.{refl}
-use borrow.Author.Rules.{rules}
 use Rattle.frames.proofs.Orders.{frame_goes_on, frame-stops}
-use Rattle.kinds.specs.Kinds.{Modest}
 use Rattle.register_rules.specs.Verdict.{exchange_check}
 use Rattle.register.proofs.check.check_exchange.Goals as goal
 

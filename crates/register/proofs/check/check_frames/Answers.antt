@@ -3,10 +3,9 @@
 use mathlib.Core.Path.{sym, ap, ◌∙◌}
 use mathlib.Core.List.{[]}
 use native.Mathlib.Omega.{arith}
-use borrow.Author.Rules.{rules}
 use Rattle.refusals.proofs.Chain.{goes_on, stops}
 use Rattle.refusals.specs.Told.{means}
-use Rattle.register_rules.proofs.Facts.{BasisFits, numbers-most, basis-told}
+use Rattle.register_rules.proofs.Facts.{numbers-most, basis-told}
 use Rattle.register_rules.specs.Verdict.{frames_check}
 use Rattle.register.proofs.check.check_frames.Goals as goal
 

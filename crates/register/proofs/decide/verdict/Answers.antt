@@ -3,12 +3,10 @@
 use mathlib.Core.Path.{sym, ap, ◌∙◌}
 use mathlib.Core.List.{[]}
 use native.Mathlib.Omega.{arith}
-use borrow.Author.Rules.{rules}
-use borrow.Author.Tests.{not-false, not-true}
 use Rattle.refusals.specs.Told.{means}
 use Rattle.register_rules.proofs.Facts.{frames-told, sign_on_fits}
 use Rattle.register_rules.proofs.Orders.{bad_frames, rounds_decide, too_weak}
-use Rattle.register_rules.specs.Verdict.{SignOnFits, enough, sign_on}
+use Rattle.register_rules.specs.Verdict.{enough}
 use Rattle.register.proofs.decide.verdict.Goals as goal
 
 pub returns-in-Refused : goal.returns-in-Refused

@@ -1,4 +1,4 @@
--- Each buffer ends in the case, and the buffers still to be passed are the measure.
+-- `buffer_of` is safe and ends: `at` stays within the case, and the buffers still to be passed over are the measure.
 use Rattle.std.proofs.Common.{◌≤◌, ◌-◌, length}
 use Rattle.replay_cases.proofs.case.buffer_of.Given as goal
 

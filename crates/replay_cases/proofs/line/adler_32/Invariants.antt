@@ -1,4 +1,4 @@
--- Both sums stay below the modulus, and what is left of the bytes is the measure.
+-- `adler_32` is safe and ends: both sums are reduced at every turn.
 use Rattle.std.proofs.Common.{◌≤◌, ◌<◌, ◌-◌, length}
 use Rattle.replay_cases.proofs.line.adler_32.Given as goal
 

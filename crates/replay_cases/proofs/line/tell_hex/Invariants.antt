@@ -1,4 +1,4 @@
--- What is left of the bytes is the measure.
+-- `tell_hex` is safe and ends: `i` stays within the bytes, and what is left of them is the measure.
 use Rattle.std.proofs.Common.{◌≤◌, ◌-◌, length}
 use Rattle.replay_cases.proofs.line.tell_hex.Given as goal
 

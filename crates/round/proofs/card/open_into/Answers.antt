@@ -1,5 +1,4 @@
 -- `open_into` meets its contract, bit by bit.
-use borrow.Author.Rules.{rules}
 use Rattle.scheme.specs.Round.{opening}
 use Rattle.round.proofs.card.open_into.Goals as goal
 

@@ -1,6 +1,5 @@
 -- `hash_two` meets its contract: a stream that absorbs both parts has absorbed the two, one after the other.
 use mathlib.Core.List.{[], ◌++◌}
-use borrow.Author.Rules.{rules}
 use Rattle.round.proofs.hashing.hash_two.Goals as goal
 
 pub returns : goal.returns

@@ -1,5 +1,4 @@
 -- `called_for` meets its contract, bit by bit.
-use borrow.Author.Rules.{rules}
 use Rattle.scheme.specs.Round.{called_for}
 use Rattle.round.proofs.register.called_for.Goals as goal
 

@@ -2,7 +2,6 @@
 use mathlib.Core.Path.{ap, ◌∙◌}
 use mathlib.Core.List.{List}
 use Prim.Native.Nat.{ℕ}
-use borrow.Author.Rules.{rules}
 use Rattle.algebra.specs.Lists.{same_bytes}
 use Rattle.scheme.specs.Round.{passes}
 use Rattle.round.proofs.register.passes.Goals as goal

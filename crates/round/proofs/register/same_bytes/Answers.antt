@@ -1,10 +1,7 @@
 -- `same_bytes` meets its contract: from the place i on the comparison comes to the same.
-use mathlib.Core.Path.{◌≡◌, refl, ◌∙◌}
-use Prim.Native.Nat.{◌-◌, ◌≤◌}
+use mathlib.Core.Path.{refl, ◌∙◌}
 use native.Mathlib.Omega.{arith}
 use borrow.Author.Rules.{rules}
-use lib.ListN.{length, drop}
-use Rattle.algebra.specs.Lists.{same_bytes}
 use Rattle.round.proofs.Rooms.{same_end, same_differ, same_skip}
 use Rattle.round.proofs.register.same_bytes.Goals as goal
 

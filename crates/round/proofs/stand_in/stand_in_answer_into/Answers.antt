@@ -1,5 +1,4 @@
 -- `stand_in_answer_into` meets its contract, bit by bit.
-use borrow.Author.Rules.{rules}
 use Rattle.scheme.specs.Round.{stand_in_answer}
 use Rattle.round.proofs.stand_in.stand_in_answer_into.Goals as goal
 

@@ -1,5 +1,4 @@
 -- `stand_in_commitment` meets its contract, bit by bit.
-use borrow.Author.Rules.{rules}
 use Rattle.scheme.specs.Round.{stand_in_committed}
 use Rattle.round.proofs.stand_in.stand_in_commitment.Goals as goal
 

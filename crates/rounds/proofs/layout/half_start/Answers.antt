@@ -1,7 +1,6 @@
 -- `half_start` meets its contract.
 use mathlib.Core.Path.{refl}
 use native.Mathlib.Omega.{arith}
-use borrow.Author.Rules.{rules}
 use Rattle.rounds.specs.Layout.{half_start}
 use Rattle.rounds.proofs.layout.half_start.Goals as goal
 

@@ -1,5 +1,4 @@
 -- `permutation_of` meets its contract: the n after R are σ.
-use borrow.Author.Rules.{rules}
 use Rattle.rounds.proofs.Cuts.{permutation-cut}
 use Rattle.rounds.proofs.layout.permutation_of.Goals as goal
 

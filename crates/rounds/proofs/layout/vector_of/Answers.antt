@@ -1,5 +1,4 @@
 -- `vector_of` meets its contract: the first n of the round are R.
-use borrow.Author.Rules.{rules}
 use Rattle.rounds.proofs.Cuts.{vector-cut}
 use Rattle.rounds.proofs.layout.vector_of.Goals as goal
 

@@ -1,15 +1,11 @@
 -- `first_failing` meets its contract: the search from round k on finds what the search from round 0 on finds.
 use mathlib.Core.Path.{◌≡◌, sym, ap, ◌∙◌}
 use mathlib.Core.Bool.{not}
-use Prim.Native.Nat.{ℕ, ◌-◌, ◌≤◌}
+use Prim.Native.Nat.{ℕ, ◌-◌}
 use native.Mathlib.Omega.{arith}
 use borrow.Author.Rules.{rules}
-use borrow.Author.Tests.{not-true, not-false}
-use Rattle.scheme.specs.Round.{system_of}
-use Rattle.algebra.specs.Lists.{first_from}
 use Rattle.algebra.proofs.Lists.{first_hit, first_skip, first_end}
-use Rattle.rounds.specs.Layout.{messages}
-use Rattle.rounds.specs.Rounds.{fails_at, first_failing}
+use Rattle.rounds.specs.Rounds.{first_failing}
 use Rattle.rounds.proofs.register.first_failing.Goals as goal
 
 pub loop-k-init : goal.loop-k-init

@@ -1,13 +1,8 @@
 -- `first_failing` meets its contract: the search from round k on finds what the search from round 0 on finds.
-use mathlib.Core.Path.{◌≡◌, sym, ap, ◌∙◌}
-use mathlib.Core.Bool.{not}
-use Prim.Native.Nat.{ℕ, ◌-◌, ◌≤◌}
-use native.Mathlib.Omega.{arith}
-use borrow.Author.Rules.{rules}
-use borrow.Author.Tests.{not-true, not-false}
+use mathlib.Core.Path.{◌≡◌}
+use Prim.Native.Nat.{◌-◌, ◌≤◌}
 use Rattle.scheme.specs.Round.{system_of}
 use Rattle.algebra.specs.Lists.{first_from}
-use Rattle.algebra.proofs.Lists.{first_hit, first_skip, first_end}
 use Rattle.rounds.specs.Layout.{messages}
 use Rattle.rounds.specs.Rounds.{fails_at, first_failing}
 use Rattle.rounds.proofs.register.first_failing.Given as goal

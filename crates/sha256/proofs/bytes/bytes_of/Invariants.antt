@@ -1,13 +1,8 @@
 -- `bytes_of` lays each word's bytes after those of the words before it: after i words the first 4 i bytes are those words'.
-use mathlib.Core.List.{[], ◌∷◌}
-use mathlib.Core.Path.{◌≡◌, refl, sym, ◌∙◌}
+use mathlib.Core.Path.{◌≡◌}
 use Prim.Native.Nat.{◌-◌, ◌*◌, ◌≤◌}
-use native.Mathlib.Omega.{arith}
-use borrow.Author.Rules.{rules}
 use lib.ListN.{length, take}
-use lib.Seq.{take_all}
-use Rattle.sha256.proofs.Laid.{words_more}
-use Rattle.sha256.specs.Standard.{bytes_of, bytes_of_words}
+use Rattle.sha256.specs.Standard.{bytes_of_words}
 use Rattle.sha256.proofs.bytes.bytes_of.Given as goal
 
 abbrev pub invariant-loop-i : goal.invariant-loop-i

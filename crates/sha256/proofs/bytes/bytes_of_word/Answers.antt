@@ -1,6 +1,5 @@
 -- `bytes_of_word` gives the four bytes of a word; the lowest needs no shift, as x / 1 is x.
 use native.Mathlib.Nat.{div-one}
-use borrow.Author.Rules.{rules}
 use Rattle.sha256.specs.Standard.{bytes}
 use Rattle.sha256.proofs.bytes.bytes_of_word.Goals as goal
 

@@ -1,11 +1,9 @@
 -- `lay` copies: after j bytes the buffer has the part's first j from place `at` on, and else what it had.
 use mathlib.Core.Path.{◌≡◌, refl}
-use Prim.Native.Nat.{◌-◌, ◌≤◌}
 use native.Mathlib.Numerals.{add-one}
 use native.Mathlib.Omega.{arith}
-use borrow.Author.Rules.{rules}
 use lib.ListN.{length, length-set}
-use lib.Seq.{paste, paste-zero, paste-suc}
+use lib.Seq.{paste-zero, paste-suc}
 use Rattle.sha256.proofs.bytes.lay.Goals as goal
 
 pub loop-j-init : goal.loop-j-init

@@ -1,13 +1,11 @@
 -- `blocks` goes on from the hash value of whole blocks: after i bytes, a multiple of 64, it has that of the message and those.
-use mathlib.Core.List.{List, ◌++◌, append-nil, append_assoc}
+use mathlib.Core.List.{◌++◌, append-nil, append_assoc}
 use mathlib.Core.Path.{◌≡◌}
-use Prim.Native.Nat.{ℕ, ◌+◌, ◌-◌, ◌%◌, ◌≤◌}
+use Prim.Native.Nat.{◌+◌, ◌-◌}
 use native.Mathlib.Omega.{arith}
-use borrow.Author.Rules.{rules}
 use lib.ListN.{length, take, drop, length-drop}
 use lib.Seq.{take-add, take-length, length-take-le}
 use Rattle.sha256.proofs.Absorbing.{chained_more}
-use Rattle.sha256.specs.Absorbed.{Chained}
 use Rattle.sha256.proofs.stream.blocks.Goals as goal
 
 pub loop-i-init : goal.loop-i-init

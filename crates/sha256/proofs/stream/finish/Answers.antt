@@ -3,7 +3,6 @@ use mathlib.Core.List.{List, ◌++◌}
 use mathlib.Core.Path.{◌≡◌, sym, ap, ◌∙◌}
 use Prim.Native.Nat.{ℕ, ◌+◌, ◌%◌}
 use native.Mathlib.Omega.{arith}
-use borrow.Author.Rules.{rules}
 use lib.ListN.{length, take}
 use lib.Seq.{length-take-le}
 use Rattle.sha256.proofs.Absorbing.{chained, rejoined, whole_of, digested}

@@ -1,6 +1,5 @@
 -- `start` has absorbed nothing: no byte, no block, and so the initial hash value.
 use mathlib.Core.Path.{refl}
-use borrow.Author.Rules.{rules}
 use Rattle.sha256.specs.Standard.{hash_value}
 use Rattle.sha256.proofs.stream.start.Goals as goal
 

@@ -3,7 +3,6 @@ use mathlib.Core.List.{◌++◌, append_assoc}
 use mathlib.Core.Path.{◌≡◌, sym}
 use Prim.Native.Nat.{◌+◌, ◌-◌, ◌%◌}
 use native.Mathlib.Omega.{arith}
-use borrow.Author.Rules.{rules}
 use lib.ListN.{length, take, drop, length-drop, take-append-drop, length-append}
 use lib.Seq.{length-take-le}
 use Rattle.sha256.proofs.Absorbing.{rest_of, none_waits, absorbed}

@@ -1,7 +1,6 @@
 -- `zeros_of` computes the definition; its bounds are arithmetic modulo 64.
 use mathlib.Core.Path.{refl}
 use native.Mathlib.Omega.{arith}
-use borrow.Author.Rules.{rules}
 use Rattle.sha256.specs.Standard.{zeros}
 use Rattle.sha256.proofs.stream.zeros_of.Goals as goal
 

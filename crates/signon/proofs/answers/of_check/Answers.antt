@@ -1,5 +1,4 @@
 -- `of_check` meets its contract in both cases.
-use borrow.Author.Rules.{rules}
 use Rattle.signon.proofs.answers.of_check.Goals as goal
 
 pub returns-in-Fine : goal.returns-in-Fine

@@ -1,5 +1,4 @@
 -- `of_drawing` meets its contract in both cases.
-use borrow.Author.Rules.{rules}
 use Rattle.signon.proofs.answers.of_drawing.Goals as goal
 
 pub returns-in-Bytes : goal.returns-in-Bytes

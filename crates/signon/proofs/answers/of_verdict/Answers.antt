@@ -1,5 +1,4 @@
 -- `of_verdict` meets its contract in both cases.
-use borrow.Author.Rules.{rules}
 use Rattle.signon.proofs.answers.of_verdict.Goals as goal
 
 pub returns-in-Accepted : goal.returns-in-Accepted

@@ -1,6 +1,5 @@
 -- `signon_draw_challenges` hands on the answer of `draw_challenges`, whose contract fixes all but how it is written.
 use native.Mathlib.Omega.{arith}
-use borrow.Author.Rules.{rules}
 use Rattle.refusals.specs.Number.{SHAPE, DRAW}
 use Rattle.refusals.specs.Buffer.{NONE}
 use Rattle.refusals.proofs.Chain.{demand-most}

@@ -1,6 +1,5 @@
 -- `signon_make_key` hands on the answer of `make_key`, whose contract fixes all but how it is written.
 use native.Mathlib.Omega.{arith}
-use borrow.Author.Rules.{rules}
 use Rattle.refusals.specs.Number.{PERM, DRAW}
 use Rattle.refusals.proofs.Chain.{most-more}
 use Rattle.readers.proofs.Outcomes.{reading-most}

@@ -1,7 +1,6 @@
 -- `read_for_c` answers the numbers that were read, which are too small to overflow.
 use mathlib.Core.Path.{sym, ap, ◌∙◌}
 use native.Mathlib.Omega.{arith}
-use borrow.Author.Rules.{rules}
 use Rattle.frames.specs.Reading.{read_means}
 use Rattle.frames.proofs.Facts.{modest_alone}
 use Rattle.card_for_c.specs.Answers.{answer_of}

@@ -1,7 +1,6 @@
 -- `signon_check_opening` answers where the round's stretch starts, once the check has said that it is there.
 use mathlib.Core.Path.{sym, ap, ◌∙◌}
 use native.Mathlib.Omega.{arith}
-use borrow.Author.Rules.{rules}
 use Rattle.refusals.specs.Told.{means}
 use Rattle.card_for_c.specs.Answers.{answer_of}
 use Rattle.signon.proofs.Numbers.{place-fits, place-told, no_place-told}

@@ -1,5 +1,4 @@
 -- `signon_stand_in` hands on the answer of `stand_in`, whose contract fixes all but how it is written.
-use borrow.Author.Rules.{rules}
 use Rattle.signon.proofs.ForC.{stand_in_for_c}
 use Rattle.signon.proofs.standing.signon_stand_in.Goals as goal
 

@@ -1,5 +1,4 @@
 -- `write_for_c` hands on the answer of `write_frame`, whose contract fixes all but how it is written.
-use borrow.Author.Rules.{rules}
 use Rattle.signon.proofs.ForC.{write_for_c}
 use Rattle.signon.proofs.write.write_for_c.Goals as goal
 
