@@ -1,4 +1,4 @@
--- Each way that the loop goes has its law.
+-- `number_in` meets its contract: each way that the loop goes has its law.
 use Rattle.std.proofs.Common.{◌∙◌, arith}
 use Rattle.desk_files.proofs.Numbers.{number-none, number-starts, number_end, number_low, number-high, number_large, number_goes_on}
 use Rattle.desk_files.proofs.argument.number_in.Goals as goal
