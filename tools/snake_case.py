@@ -1,6 +1,6 @@
 #!/usr/bin/env python3
 """Brings the names that this repository's definitions and lemmas have to the spelling of today's library: words in snake case, with a dash only
-where it joins two names, as in `length-joined`. Run once, at the top of the repository, right after the kit's port.py; a second run changes nothing.
+where it joins two names, as in `length-joined`. Run once, at the top of the repository, after the kit's port.py.
 
 It renames what specs/ and the lemma files right in proofs/ declare, everywhere below crates/: in definitions, lemmas, proofs, contracts and
 must-fail edits. Functions, exported names, strings and the names that Rattle makes for goals stay. It stops where two names would fall together."""
@@ -12,6 +12,20 @@ import sys
 WORD = re.compile(r"(?<![\w'.◌-])[^\W\d][\w']*(?:-[\w'*]+)*")
 DECLARED = re.compile(r"^(?:unfoldable |abbrev )?(?:pub )?(?:record |data )?([^\W\d][\w'-]*) (?:: |\()", re.M)
 FIELD = re.compile(r"^  pub ([^\W\d][\w'-]*) :", re.M)
+
+# Names whose words are no names, though each is one elsewhere.
+PLAIN = set("""choices-pair-off fine-shows-digest one-answer-for-c one-begin one-begin-for-c one-key-check one-more-refused one-opening-check one-output-for-c
+one-reading one-verdict one-writing refused-shows-nothing refused-writes-nothing small-choices-pair-off the-first-refusal-counts""".split())
+
+# Constructors, and names inside a module.
+INNER = {"ranOut": "ran_out", "roomTold": "room_told", "roundsTold": "rounds_told", "getD-start": "get_or-start", "getD-last": "get_or-last"}
+
+# Fields that are named for what they hold, beside a lemma of the same name elsewhere.
+HERE = {
+    "crates/demands/proofs/Demand1.antt": {"key_check_lem": "key_check", "stand_in_lem": "stand_in"},
+    "crates/demands/proofs/Demand2.antt": {"open_told_lem": "open-told"},
+    "crates/demands/proofs/Instance.antt": {"open_told_lem = refl": "open-told = refl"},
+}
 
 # Names of the library that a lemma's name may be joined from.
 LIBRARY = set("""add all append at below concat cons cond count drop false ge get get_or gt index inverse le length lt map mem mod mul nat_eq nil replicate set
@@ -40,6 +54,8 @@ def words(name):
 
 def joined(name, known):
     """The name with its dashes kept between two names, and its words joined by `_` elsewhere."""
+    if name in PLAIN:
+        return name.replace("-", "_")
     parts = [words(p) for p in name.split("-")]
     out = parts[0]
     for before, after in zip(parts, parts[1:]):
@@ -63,7 +79,7 @@ def renaming():
         if b in taken:
             sys.exit(f"`{a}` and `{b}` would fall together")
         taken.add(b)
-    return to, fields
+    return {**to, **INNER}, fields
 
 
 def renamed(text, to, fields=()):
@@ -128,6 +144,8 @@ def main():
         text = old = open(file, encoding="utf-8").read()
         if file.endswith(".antt"):
             text = renamed(text, to, fields)
+            for a, b in HERE.get(file, {}).items():
+                text = text.replace(a, b)
         elif file.endswith(".rt"):
             text = clauses_renamed(text, to).replace("typeof.c.", "c·")
         else:

@@ -72,6 +72,11 @@ class Desk:
         ran = subprocess.run([self.program, *map(str, words)], cwd=self.folder, stdout=subprocess.PIPE, stderr=subprocess.DEVNULL, check=True)
         return ran.stdout.decode().splitlines()
 
+    def faults(self, *words):
+        """What goes to standard error, by lines."""
+        ran = subprocess.run([self.program, *words], cwd=self.folder, stdout=subprocess.DEVNULL, stderr=subprocess.PIPE, check=True)
+        return ran.stderr.decode().splitlines()
+
     def expect(self, name, got, wanted):
         if got != wanted:
             self.wrong.append(f"{name}: {got!r}, not {wanted!r}")
@@ -337,6 +342,7 @@ def test_files(desk, rng):
     desk.put(random=rng.randbytes(100), large=bytes(ROOM + 1), record=bytes(67), frame=b"")
     (desk.folder / "folder").mkdir()
     desk.call(["show", "missing"], "failed: missing can't be opened for reading")
+    desk.expect("why it can't be", desk.faults("show", "missing"), ["missing: No such file or directory"])
     desk.call(["show", "folder"], "failed: folder can't be read")
     desk.call(["show", "large"], "failed: large is too large")
     desk.call(["challenges", 31, "missing", "out"], "failed: missing can't be opened for reading")
@@ -345,6 +351,8 @@ def test_files(desk, rng):
     desk.call(["challenges", "", "random", "out"], "failed:  is no number of 0 to 65535")
     desk.call(["give-up", "record", "large"], "failed: record is no record")
     desk.call(["challenges", 31, "random", "no-folder/out"], "failed: no-folder/out can't be written")
+    why = ["no-folder/out.new: No such file or directory"]
+    desk.expect("why it can't be written", desk.faults("challenges", "31", "random", "no-folder/out"), why)
     desk.call(["challenges", 31, "random", "/dev/null"], "failed: /dev/null can't be written")
     desk.call(["challenges", 31, "random", "folder"], "failed: folder can't be written")
     desk.put(**{"out.new": b"in the way"})

@@ -20,8 +20,8 @@ use Rattle.card_rules.specs.Keys.{Keys, places_of, rows_of, fault_of, keys_check
 use Rattle.card_rules.specs.Asking.{staged, at_rest, record_fits, kept_fit, commitments_size, answers_size, openings_size, rest_check, begin_check, answer_check, open_check}
 use Rattle.card_rules.proofs.Orders.{rest_in_order, open_in_order}
 
-pub one-key_check : (k : Keys) (a b : Checked) → ChecksKey k a → ChecksKey k b → a ≡ b
-one-key_check k a b p q = means_fixes a b (p.says ∙ sym q.says)
+pub one_key_check : (k : Keys) (a b : Checked) → ChecksKey k a → ChecksKey k b → a ≡ b
+one_key_check k a b p q = means_fixes a b (p.says ∙ sym q.says)
 
 -- ---- the numbers up to STAGE
 

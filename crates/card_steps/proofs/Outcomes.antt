@@ -49,8 +49,8 @@ module _ (s : Session) (N : ℕ) (k : Keys) (choices out : List ℕ) where
   pub refused_begin : (r : Refusal) (a : Step) (x : List ℕ) → BeginStep s N k choices out a x → a.told ≡ Refused r → (a.next ≡ s) × (x ≡ out)
   refused_begin r a x p e = (p.moves ∙ record-left a.told r e _ s, p.writes ∙ output-left a.told r e _ out)
 
-  pub one-begin : (a b : Step) (x y : List ℕ) → BeginStep s N k choices out a x → BeginStep s N k choices out b y → (a ≡ b) × (x ≡ y)
-  one-begin a b x y p q =
+  pub one_begin : (a b : Step) (x y : List ℕ) → BeginStep s N k choices out a x → BeginStep s N k choices out b y → (a ≡ b) × (x ≡ y)
+  one_begin a b x y p q =
       let e = p.says ∙ sym q.says in
       (same_step a b e s _ p.moves q.moves, same-output a b e _ out x y p.writes q.writes)
 

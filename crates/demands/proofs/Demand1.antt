@@ -16,19 +16,19 @@ use Rattle.writers.specs.declared.Written.TheVariants.{Refused}
 use Rattle.kinds.specs.Kinds.{alone}
 use Rattle.frames.specs.Reading.{Reads, opening_check}
 use Rattle.writers.specs.Writing.{Writes}
-use Rattle.readers.proofs.Outcomes.{one-reading, one-opening_check}
-use Rattle.writers.proofs.Outcomes.{one-writing, refused_writes-nothing}
+use Rattle.readers.proofs.Outcomes.{one_reading, one_opening_check}
+use Rattle.writers.proofs.Outcomes.{one_writing, refused_writes_nothing}
 use Rattle.draw_rules.specs.declared.Taken.TheVariants.{Refused as NotTaken}
 use Rattle.draw_rules.specs.Telling.{Draws}
 use Rattle.draw_rules.proofs.Outcomes.{one_drawing, refused_draws_nothing}
 use Rattle.card_rules.specs.declared.session.Session.{Session}
 use Rattle.card_rules.specs.Keys.{Keys, ChecksKey}
-use Rattle.card_rules.proofs.Outcomes.{one-key_check}
+use Rattle.card_rules.proofs.Outcomes.{one_key_check}
 use Rattle.card_steps.specs.declared.Step.{Step}
 use Rattle.card_steps.specs.Steps.{BeginStep, AnswerStep, OpenStep, GiveUpStep}
-use Rattle.card_steps.proofs.Outcomes.{one-begin, refused_begin, one_answer, refused_answer, one_open, refused_open, one_give_up}
+use Rattle.card_steps.proofs.Outcomes.{one_begin, refused_begin, one_answer, refused_answer, one_open, refused_open, one_give_up}
 use Rattle.register_rules.specs.Verdict.{SignOn, Judges}
-use Rattle.register_rules.proofs.Outcomes.{one-verdict}
+use Rattle.register_rules.proofs.Outcomes.{one_verdict}
 use Rattle.stand_in.specs.Standing.{StandsIn}
 use Rattle.stand_in.proofs.Outcomes.{one_stand_in, refused_changes_nothing}
 
@@ -45,14 +45,14 @@ pub record Demand1 : Type 0 where
   pub named_round : (openings : List ℕ) (round : ℕ) → Only (λ (answer : Checked). means answer ≡ opening_check openings round)
   pub writers : (kind : Kind) (a b : ℕ) (plain out : List ℕ) → Both (Writes kind a b plain out)
   pub drawings : (numbers : Told) (need : ℕ) (drawing : Drawing) (random out : List ℕ) → Both (Draws numbers need drawing random out)
-  pub key_check_lem : (k : Keys) → Only (ChecksKey k)
+  pub key_check : (k : Keys) → Only (ChecksKey k)
   pub begin : (s : Session) (N : ℕ) (k : Keys) (choices out : List ℕ) → Both (BeginStep s N k choices out)
   pub answer : (s : Session) (k : Keys) (message choices out : List ℕ) → Both (AnswerStep s k message choices out)
   pub open' : (s : Session) (k : Keys) (message choices out : List ℕ) (a b : Step) (u v x y : List ℕ)
       → OpenStep s k message choices out a u x → OpenStep s k message choices out b v y → (a ≡ b) × (u ≡ v) × (x ≡ y)
   pub give_up : (s : Session) (choices : List ℕ) → Both (GiveUpStep s choices)
   pub verdict : (grade : ℕ) (x : SignOn) → Only (Judges grade x)
-  pub stand_in_lem : (c bit : ℕ) (system key lent out : List ℕ) → Both (StandsIn c bit system key lent out)
+  pub stand_in : (c bit : ℕ) (system key lent out : List ℕ) → Both (StandsIn c bit system key lent out)
   -- a refused call: the output, and for the card the record and the choices, as they were
   pub refused_writer : (kind : Kind) (a b : ℕ) (plain out : List ℕ) (r : Refusal) (after : List ℕ) → Writes kind a b plain out (Refused r) after → after ≡ out
   pub refused_drawing : (numbers : Told) (need : ℕ) (drawing : Drawing) (random out : List ℕ) (r : Refusal) (after : List ℕ)
@@ -69,18 +69,18 @@ pub demand_1 : Demand1
 demand_1 =
     record {
       hash = one_outcome;
-      readers = λ kind frame. one-reading kind alone frame;
-      named_round = one-opening_check;
-      writers = one-writing;
+      readers = λ kind frame. one_reading kind alone frame;
+      named_round = one_opening_check;
+      writers = one_writing;
       drawings = one_drawing;
-      key_check_lem = one-key_check;
-      begin = one-begin;
+      key_check = one_key_check;
+      begin = one_begin;
       answer = one_answer;
       open' = one_open;
       give_up = one_give_up;
-      verdict = one-verdict;
-      stand_in_lem = one_stand_in;
-      refused_writer = refused_writes-nothing;
+      verdict = one_verdict;
+      stand_in = one_stand_in;
+      refused_writer = refused_writes_nothing;
       refused_drawing = refused_draws_nothing;
       refused_begin' = refused_begin;
       refused_answer' = refused_answer;

@@ -68,7 +68,7 @@ pub record SignedOn (N : ℕ) (k : Keys) (choices challenges bits : List ℕ) : 
   pub openings : List ℕ
   pub bytes₃ : ℕ
   pub opens : OpenStep answer.next k bits choices out₃ open' left openings
-  pub open_told_lem : open'.told ≡ Wrote bytes₃
+  pub open-told : open'.told ≡ Wrote bytes₃
 
 -- what the register is lent: the frames written, as many bytes as each call told, and the frames sent
 abbrev pub sent_by : (N : ℕ) (k : Keys) (choices challenges bits : List ℕ) → SignedOn N k choices challenges bits → SignOn
@@ -88,7 +88,7 @@ module _ (N : ℕ) (k : Keys) (choices challenges bits : List ℕ) (c : SignedOn
   answered-facts = answer_wrote c.begin.next k challenges choices c.out₂ c.answer c.answers c.bytes₂ c.answer-told c.answering
 
   opened-facts : OpenWrote c.answer.next k bits choices c.out₃ c.open'.next c.left c.openings c.bytes₃
-  opened-facts = open_wrote c.answer.next k bits choices c.out₃ c.open' c.openings c.bytes₃ c.open_told_lem c.left c.opens
+  opened-facts = open_wrote c.answer.next k bits choices c.out₃ c.open' c.openings c.bytes₃ c.open-told c.left c.opens
 
   -- the record keeps N
   rounds₁ : c.begin.next.rounds ≡ N

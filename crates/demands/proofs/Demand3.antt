@@ -32,8 +32,8 @@ use Rattle.demands.proofs.Demand2.{SignedOn, sent_by, lent, begun_facts, challen
 sound : (k : Keys) (N : ℕ) (choices : List ℕ) → LentFits k N choices → Sound (matrix_of k)
 sound k N choices h = record { some = omega arith; fits = h.keys.system }
 
-pub choices-pair_off : (k : Keys) (N : ℕ) (choices : List ℕ) → LentFits k N choices → (c : ℕ) → c ≤ modulus → (bit : Bool) → Pairing (matrix_of k) (public_of k) (secret_of k) c bit
-choices-pair_off k N choices h c small bit = pairing (matrix_of k) (public_of k) (secret_of k) (sound k N choices h) h.valid c small bit
+pub choices_pair_off : (k : Keys) (N : ℕ) (choices : List ℕ) → LentFits k N choices → (c : ℕ) → c ≤ modulus → (bit : Bool) → Pairing (matrix_of k) (public_of k) (secret_of k) c bit
+choices_pair_off k N choices h c small bit = pairing (matrix_of k) (public_of k) (secret_of k) (sound k N choices h) h.valid c small bit
 
 -- ---- over the calls: round j of what begin, answer and open write is what the stand-in's call writes, lent the partner of the round's choices
 
@@ -66,7 +66,7 @@ module _ (N : ℕ) (k : Keys) (choices challenges bits : List ℕ) (c : SignedOn
   facts = lent N k choices challenges bits c
 
   pairs : Pairing (matrix_of k) (public_of k) (secret_of k) challenge bit
-  pairs = choices-pair_off k N choices facts challenge (let h = challenge-below N k choices challenges bits c j l in omega arith) bit
+  pairs = choices_pair_off k N choices facts challenge (let h = challenge-below N k choices challenges bits c j l in omega arith) bit
 
   partner-well : WellFormed (matrix_of k) partner
   partner-well = pairs.there-well chosen (facts.well.each j l)

@@ -37,7 +37,7 @@ use Rattle.register_rules.specs.Verdict.{SignOn, sign_on, basis_check, exchange_
 use Rattle.register_rules.proofs.Facts.{frames-told}
 use Rattle.register_rules.proofs.Exact.{Accepts, Fails, accepted→}
 use Rattle.demands.proofs.Demand2.{SignedOn, sent_by, lent, honest-card-accepted}
-use Rattle.demands.proofs.Demand3.{choices-pair_off, partner, same_round}
+use Rattle.demands.proofs.Demand3.{choices_pair_off, partner, same_round}
 
 abbrev pub N : ℕ
 N = 20
@@ -107,7 +107,7 @@ signed =
       openings = over (frame Openings 3 after-answer.rounds (openings_of after-answer.rounds small bits choices)) (outputs 66);
       bytes₃ = 66;
       opens = record { says = open_told-fine; moves = refl; clears = refl; writes = refl };
-      open_told_lem = refl;
+      open-told = refl;
     }
 
 -- an inspector's sign-on, accepted
@@ -117,8 +117,8 @@ small-card-accepted = honest-card-accepted N small choices challenges bits signe
 
 -- ---- of demand 3: round 0 of it, of challenge 7 and bit 1, and its partner
 
-pub small-choices-pair_off : Pairing (matrix_of small) (public_of small) (secret_of small) 7 true
-small-choices-pair_off = choices-pair_off small N choices (lent N small choices challenges bits signed) 7 (omega arith) true
+pub small_choices_pair_off : Pairing (matrix_of small) (public_of small) (secret_of small) 7 true
+small_choices_pair_off = choices_pair_off small N choices (lent N small choices challenges bits signed) 7 (omega arith) true
 
 pub small_round_paired : opened_at 3 (messages_in (sent_by N small choices challenges bits signed)) 0
     ≡ stand_in_of 7 1 small.system small.public ((partner N small choices challenges bits signed 0 (omega arith)).vector ++ (partner N small choices challenges bits signed 0 (omega arith)).permutation)

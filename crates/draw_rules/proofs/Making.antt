@@ -7,7 +7,7 @@ use native.Mathlib.Omega.{arith}
 use lib.ListN.{length, length-append}
 use Rattle.algebra.specs.Residues.{modulus, Residues}
 use Rattle.algebra.specs.Permutations.{longest}
-use Rattle.random.specs.Drawings.{Drawing, drew, ranOut, draw_permutation}
+use Rattle.random.specs.Drawings.{Drawing, drew, ran_out, draw_permutation}
 use Rattle.algebra.proofs.Lists.{&&-left, &&-right}
 use Rattle.random.proofs.Drawings.{Permutes, drawn-perm}
 use Rattle.kinds.specs.Kinds.{limits, within, alone}
@@ -29,12 +29,12 @@ choice_chosen n random pos at = step (draw_residues n random at) (some_below_lem
     join r (drew s q) (e, h) p =
         let z = p.len in
         (length-append r s ∙ omega arith, record { vector = r; permutation = s; both = refl; len = e; residues = h; perm = p })
-    join r ranOut h p = tt
+    join r ran_out h p = tt
 
     step : (d : Drawing) → Always (λ (l : List ℕ). (length l ≡ n) × Residues modulus l) d
         → Always (λ (l : List ℕ). (length l ≡ choice_size n) × Chosen n l) (and_then d (draw_permutation n random))
     step (drew r p) h = join r (draw_permutation n random p) h (drawn-perm n random p pos)
-    step ranOut h = tt
+    step ran_out h = tt
 
 pub choices_fit_told : (greatest n N : ℕ) → choices_fit greatest n N ≡ true → ((2 ≤ n) × (n ≤ longest)) × ((1 ≤ N) × (N ≤ greatest))
 choices_fit_told greatest n N t = (

@@ -11,7 +11,7 @@ use Rattle.refusals.specs.Buffer.{OUTPUT}
 use Rattle.refusals.specs.Told.{Told, done, refused, first, demand}
 use Rattle.refusals.proofs.Chain.{UpTo, first_done, done_most, first-most, test_most}
 use Rattle.algebra.specs.Lists.{over}
-use Rattle.random.specs.Drawings.{Drawing, drew, ranOut}
+use Rattle.random.specs.Drawings.{Drawing, drew, ran_out}
 use Rattle.random.specs.declared.draw.Used.{Used}
 use Rattle.random.specs.declared.draw.Used.TheVariants.{To, RanOut}
 use Rattle.draw_rules.specs.declared.Taken.{Taken}
@@ -48,7 +48,7 @@ module _ (numbers : Told) (need : ℕ) (random out : List ℕ) (used : ℕ) (aft
   pub taken_drew : (drawing : Drawing) → Draws numbers need drawing random out (Bytes used) after
       → (s : List ℕ) × (drawing ≡ drew s used) × (after ≡ over s out)
   taken_drew (drew s p) d = let e = told-used (To p) d.says in let q : p ≡ used = cc in (s, ap (drew s) q, d.writes)
-  taken_drew ranOut d = let e = told-used RanOut d.says in let z : ◌≡◌ {A = ℕ} 0 1 = cc in absurd (omega arith)
+  taken_drew ran_out d = let e = told-used RanOut d.says in let z : ◌≡◌ {A = ℕ} 0 1 = cc in absurd (omega arith)
 
 -- ---- what a drawing tells: one value, the bytes used, or a refusal by the numbers up to DRAW where its numbers and frames refuse by those
 

@@ -12,7 +12,7 @@ use Rattle.refusals.specs.Told.{done, fine}
 use Rattle.algebra.specs.Lists.{tab}
 use Rattle.algebra.specs.Residues.{modulus, Residues}
 use Rattle.algebra.specs.Permutations.{IsPerm}
-use Rattle.random.specs.Drawings.{Drawing, drew, ranOut, draw_permutation}
+use Rattle.random.specs.Drawings.{Drawing, drew, ran_out, draw_permutation}
 use Rattle.algebra.proofs.Lists.{length-tab, get_or-tab, tab_of}
 use Rattle.random.proofs.Drawings.{Permutes, drawn-perm}
 use Rattle.random.proofs.Fair.{drawn-at}
@@ -54,7 +54,7 @@ pub record Source (f : List ℕ → List ℕ) (d : Drawing) (s : List ℕ) (next
 
 pub source : (f : List ℕ → List ℕ) (d : Drawing) (s : List ℕ) (next : ℕ) → made f d ≡ drew s next → Source f d s next
 source f (drew l p) s next e = let q : p ≡ next = cc in let r : s ≡ f l = cc in record { list = l; drawn = ap (drew l) q; same = r }
-source f ranOut s next e = let z : ◌≡◌ {A = ℕ} 0 1 = cc in absurd (omega arith)
+source f ran_out s next e = let z : ◌≡◌ {A = ℕ} 0 1 = cc in absurd (omega arith)
 
 -- a frame of one number that its reader accepts, and what it holds
 pub record Accepted (k : Kind) (number : ℕ) (rest s : List ℕ) : Type 0 where

@@ -9,7 +9,7 @@ use lib.Seq.{take_at, drop_at}
 use Rattle.algebra.specs.Lists.{over}
 use Rattle.algebra.specs.Residues.{modulus, Residues}
 use Rattle.algebra.specs.Permutations.{longest, IsPerm}
-use Rattle.random.specs.Drawings.{Drawing, drew, ranOut, draw_permutation, drawn_over, Enough}
+use Rattle.random.specs.Drawings.{Drawing, drew, ran_out, draw_permutation, drawn_over, Enough}
 use Rattle.random.proofs.Drawings.{Permutes, drawn-perm}
 use Rattle.algebra.proofs.Permutations.{length-permute, length-inverse}
 use Rattle.kinds.specs.declared.Kind.TheVariants.{Public, Secret}
@@ -21,11 +21,11 @@ use Rattle.key_making.specs.Key.{public_key, draw_pair}
 -- the list drawn, where the bytes suffice
 pub listed : (P : List ℕ → Type 0) (d : Drawing) → Always P d → Enough d → P (list_of d)
 listed P (drew l at) h e = h
-listed P ranOut h e = absurd e
+listed P ran_out h e = absurd e
 
 pub made-over : (f : List ℕ → List ℕ) (d : Drawing) (out : List ℕ) → Enough d → over (f (list_of d)) out ≡ drawn_over (made f d) out
 made-over f (drew l at) out e = refl
-made-over f ranOut out e = absurd e
+made-over f ran_out out e = absurd e
 
 -- π and the start of X
 pub record DrawnPair (n m : ℕ) (l : List ℕ) : Type 0 where
@@ -43,11 +43,11 @@ pair-drawn n m random pos = step (draw_permutation n random 0) (drawn-perm n ran
         let a = take_at π s n h.len in
         let b = drop_at π s n h.len in
         record { perm = rw a h; len = rw b e; residues = rw b r }
-    join π ranOut h r = tt
+    join π ran_out h r = tt
 
     step : (d : Drawing) → Permutes n d → Always (DrawnPair n m) (and_then d (draw_residues (n - m) random))
     step (drew π p) h = join π (draw_residues (n - m) random p) h (some_below_lem modulus random (n - m) p)
-    step ranOut h = tt
+    step ran_out h = tt
 
 pub length-public_key : (a : List ℕ) (n m : ℕ) (π start : List ℕ) → length (public_key a n m π start) ≡ n
 unfolding public_key

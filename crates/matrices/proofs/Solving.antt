@@ -34,24 +34,24 @@ module _ (p : ℕ) (a : List ℕ) (n m : ℕ) (start : List ℕ) where
   unfolding completed
   length-completed e l = length-append start (tab m last) ∙ (let t = length-tab m last in omega arith)
 
-  getD-start : (j : ℕ) → j < length start → get_or (completed p a n m start) j 0 ≡ get_or start j 0
+  get_or-start : (j : ℕ) → j < length start → get_or (completed p a n m start) j 0 ≡ get_or start j 0
   unfolding completed
-  getD-start j l = get_or-append start (tab m last) 0 j l
+  get_or-start j l = get_or-append start (tab m last) 0 j l
 
-  getD-last : (i : ℕ) → i < m → get_or (completed p a n m start) (length start + i) 0 ≡ last i
+  get_or-last : (i : ℕ) → i < m → get_or (completed p a n m start) (length start + i) 0 ≡ last i
   unfolding completed
-  getD-last i l = get_or-append-add start (tab m last) i 0 ∙ get_or-tab m last i l
+  get_or-last i l = get_or-append-add start (tab m last) i 0 ∙ get_or-tab m last i l
 
   pub residues-completed : 0 < p → length start ≡ n - m → m < n → Residues p start → Residues p (completed p a n m start)
   residues-completed pos e less r j l = step (dec_lt j (length start))
     where
       step : Dec (j < length start) → get_or (completed p a n m start) j 0 < p
-      step (yes k) = rw (getD-start j k) (r j k)
+      step (yes k) = rw (get_or-start j k) (r j k)
       step (no f) =
           let w = length-completed e less in
           let q : length start + (j - length start) ≡ j = omega arith in
           let g : get_or (completed p a n m start) j 0 ≡ last (j - length start) =
-          ap (λ (z : ℕ). get_or (completed p a n m start) z 0) (sym q) ∙ getD-last (j - length start) (omega arith) in
+          ap (λ (z : ℕ). get_or (completed p a n m start) z 0) (sym q) ∙ get_or-last (j - length start) (omega arith) in
           rw g (negative_residue p _ pos)
 
   module _ (pos : 0 < p) (fits : SystemFits a n m) (e : length start ≡ n - m) where
@@ -62,9 +62,9 @@ module _ (p : ℕ) (a : List ℕ) (n m : ℕ) (start : List ℕ) where
         let d : length start ≡ length row = e ∙ sym (row-length p a n m fits i l) in
         let sum = sum_below (length row) (λ (j : ℕ). get_or row j 0 * get_or start j 0) in
         let s : sum_below (length row) (λ (j : ℕ). get_or row j 0 * get_or (completed p a n m start) j 0) ≡ sum =
-        sum_cong (length row) _ _ (λ j k. ap (λ (z : ℕ). get_or row j 0 * z) (getD-start j (rw d k))) in
+        sum_cong (length row) _ _ (λ j k. ap (λ (z : ℕ). get_or row j 0 * z) (get_or-start j (rw d k))) in
         let t : get_or (completed p a n m start) (length row + i) 0 ≡ last i =
-        ap (λ (z : ℕ). get_or (completed p a n m start) (z + i) 0) (sym d) ∙ getD-last i l in
+        ap (λ (z : ℕ). get_or (completed p a n m start) (z + i) 0) (sym d) ∙ get_or-last i l in
         let none : get_or start (length row + i) 0 ≡ 0 = get_or-eq_default start 0 (omega arith) in
         let r : row_times p row start i ≡ sum % p = ap (λ (z : ℕ). z % p) (omega arith) in
         ap₂ (λ (x y : ℕ). (x + y) % p) s (t ∙ ap (negative p) r)

@@ -14,7 +14,7 @@ use Rattle.random.specs.declared.draw.Drawn.TheVariants.{Got, RanOut}
 use Rattle.random.specs.declared.draw.Used.TheVariants.{To, RanOut as NoneLeft}
 use Rattle.algebra.specs.Lists.{over}
 use Rattle.algebra.specs.Permutations.{IsPerm, identity}
-use Rattle.random.specs.Drawings.{draw_left, draw_below, Drawing, drew, ranOut, with, largest_multiple, exchange, shuffle, draw_permutation, used_by, drawn_over, Enough}
+use Rattle.random.specs.Drawings.{draw_left, draw_below, Drawing, drew, ran_out, with, largest_multiple, exchange, shuffle, draw_permutation, used_by, drawn_over, Enough}
 use Rattle.algebra.proofs.Lists.{front}
 use Rattle.algebra.proofs.Permutations.{Stands, stands, from_places, identity-perm}
 
@@ -75,7 +75,7 @@ module _ (n : ℕ) (s : List ℕ) (i j : ℕ) (li : i < n) (lj : j < n) (h : IsP
 -- a permutation, where the bytes suffice
 abbrev pub Permutes : ℕ → Drawing → Type 0
 Permutes n (drew s at) = IsPerm n s
-Permutes n ranOut = Unit {0}
+Permutes n ran_out = Unit {0}
 
 shuffle-perm : (n i : ℕ) (s random : List ℕ) (at : ℕ) → i < n → IsPerm n s → Permutes n (shuffle i s random at)
 unfolding shuffle
@@ -112,7 +112,7 @@ module _ (s random : List ℕ) (p i : ℕ) where
       ∙ ap (λ (k : ℕ). shuffle (i - 1 - 1) (exchange s (suc (i - 1 - 1)) (x % k)) random next) e2
       ∙ ap (λ (k : ℕ). shuffle (i - 1 - 1) (exchange s k (x % i)) random next) (sym e1)
 
-  pub shuffle_short : 1 < i → RanOut ≡ draw_below (largest_multiple i) random p → shuffle (i - 1) s random p ≡ ranOut
+  pub shuffle_short : 1 < i → RanOut ≡ draw_below (largest_multiple i) random p → shuffle (i - 1) s random p ≡ ran_out
   unfolding shuffle
   shuffle_short h e =
       let e1 : i - 1 ≡ suc (i - 1 - 1) = omega arith in
@@ -183,7 +183,7 @@ module _ (n : ℕ) (random : List ℕ) (at : ℕ) (d out : List ℕ) (p i : ℕ)
         now = ap (λ (z : List ℕ). exchange z (i - 1) (x % i)) w.now ∙ exchange-over w.list d (i - 1) (x % i) (omega arith) (omega arith);
       }
 
-  pub shuffling_short : 1 < i → RanOut ≡ draw_below (largest_multiple i) random p → shuffle (n - 1) (take n d) random at ≡ ranOut
+  pub shuffling_short : 1 < i → RanOut ≡ draw_below (largest_multiple i) random p → shuffle (n - 1) (take n d) random at ≡ ran_out
   shuffling_short h e = sym w.rest ∙ shuffle_short w.list random p i h e
 
   pub shuffling_done : i ≤ 1 → shuffle (n - 1) (take n d) random at ≡ drew w.list p
@@ -203,14 +203,14 @@ over-over s t d e = ap (λ (z : List ℕ). s ++ z) (drop_at t (drop (length t) d
 
 pub drawn-over-identity : (n : ℕ) (m : Drawing) (d : List ℕ) → Permutes n m → Enough m → drawn_over m (over (identity n) d) ≡ drawn_over m d
 drawn-over-identity n (drew s at) d h e = over-over s (identity n) d (h.len ∙ sym (identity-perm n).len)
-drawn-over-identity n ranOut d h e = absurd e
+drawn-over-identity n ran_out d h e = absurd e
 
 -- ---- what the measured answer says of the drawing
 
 pub enough_of : (m : Drawing) (q : ℕ) → To q ≡ used_by m → Enough m
 enough_of (drew s at) q e = tt
-enough_of ranOut q e = let z : ◌≡◌ {A = ℕ} 0 1 = cc in absurd (omega arith)
+enough_of ran_out q e = let z : ◌≡◌ {A = ℕ} 0 1 = cc in absurd (omega arith)
 
 pub untouched : (m : Drawing) (d : List ℕ) → NoneLeft ≡ used_by m → d ≡ drawn_over m d
 untouched (drew s at) d e = let z : ◌≡◌ {A = ℕ} 0 1 = cc in absurd (omega arith)
-untouched ranOut d e = refl
+untouched ran_out d e = refl

@@ -6,7 +6,7 @@ use Rattle.algebra.specs.Lists.{tab}
 use Rattle.algebra.specs.Residues.{modulus}
 use Rattle.algebra.specs.Permutations.{identity}
 use Rattle.random.specs.declared.draw.Drawn.TheVariants.{Got, RanOut}
-use Rattle.random.specs.Drawings.{draw_left, draw_below, drew, ranOut, largest_multiple, exchange, shuffle, draw_permutation}
+use Rattle.random.specs.Drawings.{draw_left, draw_below, drew, ran_out, largest_multiple, exchange, shuffle, draw_permutation}
 
 abbrev four : ℕ → ℕ → ℕ → ℕ → List ℕ
 four a b c d = a ∷ b ∷ c ∷ d ∷ []
@@ -20,6 +20,6 @@ drawings : (largest_multiple 3 ≡ 255)
     × (draw_below modulus (255 ∷ 251 ∷ []) 0 ≡ RanOut)
     × (draw_permutation 4 (four 6 255 4 7) 0 ≡ drew (four 0 3 1 2) 4)
     × (draw_permutation 4 (99 ∷ four 6 255 4 7) 1 ≡ drew (four 0 3 1 2) 5)
-    × (draw_permutation 4 (6 ∷ 255 ∷ 4 ∷ []) 0 ≡ ranOut)
+    × (draw_permutation 4 (6 ∷ 255 ∷ 4 ∷ []) 0 ≡ ran_out)
 unfolding draw_below draw_left draw_permutation shuffle exchange identity tab
 drawings = (refl, refl, refl, refl, refl, refl, refl, refl, refl)

@@ -14,7 +14,7 @@ use Rattle.random.specs.declared.draw.Used.TheVariants.{To, RanOut as NoneLeft}
 use borrow.Rule.Slice.PartMut.{put_mid, mid_of}
 use Rattle.algebra.specs.Lists.{stretch, over, over_at}
 use Rattle.algebra.specs.Residues.{Residues}
-use Rattle.random.specs.Drawings.{draw_below, Drawing, drew, ranOut, with, used_by, drawn_over, Enough}
+use Rattle.random.specs.Drawings.{draw_below, Drawing, drew, ran_out, with, used_by, drawn_over, Enough}
 use Rattle.algebra.proofs.Lists.{part_stretch, stretch-fits, part_over, over-behind}
 use Rattle.random.proofs.Fair.{drawn-below}
 use Rattle.random.specs.Sequences.{made, and_then, many_times, one_below, some_below}
@@ -23,17 +23,17 @@ use Rattle.random.specs.Sequences.{made, and_then, many_times, one_below, some_b
 
 pub drew_of : (d : Drawing) (p : ℕ) → To p ≡ used_by d → (l : List ℕ) × (d ≡ drew l p)
 drew_of (drew l at) p e = let q : at ≡ p = cc in (l, ap (drew l) q)
-drew_of ranOut p e = let z : ◌≡◌ {A = ℕ} 0 1 = cc in absurd (omega arith)
+drew_of ran_out p e = let z : ◌≡◌ {A = ℕ} 0 1 = cc in absurd (omega arith)
 
-pub ran_out_of : (d : Drawing) → NoneLeft ≡ used_by d → d ≡ ranOut
+pub ran_out_of : (d : Drawing) → NoneLeft ≡ used_by d → d ≡ ran_out
 ran_out_of (drew l at) e = let z : ◌≡◌ {A = ℕ} 0 1 = cc in absurd (omega arith)
-ran_out_of ranOut e = refl
+ran_out_of ran_out e = refl
 
 -- ---- what is made of a list takes the same bytes
 
 pub made_used : (f : List ℕ → List ℕ) (d : Drawing) → used_by (made f d) ≡ used_by d
 made_used f (drew l at) = refl
-made_used f ranOut = refl
+made_used f ran_out = refl
 
 -- ---- a drawing and then another
 
@@ -52,11 +52,11 @@ then_short d next e = sym (ap (λ (z : Drawing). used_by (and_then z next)) (ran
 -- where both have enough, each has
 pub enough-first : (d : Drawing) (next : ℕ → Drawing) → Enough (and_then d next) → Enough d
 enough-first (drew l p) next h = tt
-enough-first ranOut next h = absurd h
+enough-first ran_out next h = absurd h
 
 pub enough-made : (f : List ℕ → List ℕ) (d : Drawing) → Enough (made f d) → Enough d
 enough-made f (drew l p) h = tt
-enough-made f ranOut h = absurd h
+enough-made f ran_out h = absurd h
 
 pub enough_next : (d : Drawing) (next : ℕ → Drawing) (p : ℕ) → Enough (and_then d next) → To p ≡ used_by d → Enough (next p)
 enough_next d next p h e =
@@ -81,17 +81,17 @@ module _ (next : ℕ → Drawing) (at : ℕ) where
   times_more j = ap (λ (k : ℕ). many_times k next at) (add-one j)
 
   -- what ran out stays so
-  times-short : (n j : ℕ) → j ≤ n → many_times j next at ≡ ranOut → many_times n next at ≡ ranOut
+  times-short : (n j : ℕ) → j ≤ n → many_times j next at ≡ ran_out → many_times n next at ≡ ran_out
   unfolding many_times
   times-short zero j l e = let z : j ≡ 0 = omega arith in ap (λ (k : ℕ). many_times k next at) (sym z) ∙ e
   times-short (suc n) j l e = step (ℕ_discrete j (suc n)) (λ h. times-short n j h e)
     where
-      step : Dec (j ≡ suc n) → (j ≤ n → many_times n next at ≡ ranOut) → many_times (suc n) next at ≡ ranOut
+      step : Dec (j ≡ suc n) → (j ≤ n → many_times n next at ≡ ran_out) → many_times (suc n) next at ≡ ran_out
       step (yes q) ih = ap (λ (k : ℕ). many_times k next at) (sym q) ∙ e
       step (no q) ih = ap (λ (d : Drawing). and_then d next) (ih (omega arith))
 
   -- one runs out, and so the whole does
-  pub times_ends : (n j p : ℕ) → j < n → To p ≡ used_by (many_times j next at) → NoneLeft ≡ used_by (next p) → many_times n next at ≡ ranOut
+  pub times_ends : (n j p : ℕ) → j < n → To p ≡ used_by (many_times j next at) → NoneLeft ≡ used_by (next p) → many_times n next at ≡ ran_out
   times_ends n j p l e f =
       times-short n (j + 1) (omega arith)
       (ran_out_of (many_times (j + 1) next at) (f ∙ then_used (many_times j next at) next p e ∙ ap used_by (sym (times_more j))))
@@ -129,7 +129,7 @@ module _ (next : ℕ → Drawing) (at : ℕ) (d out : List ℕ) (j p : ℕ) (w :
     where
       step : (m : Drawing) → next p ≡ m → Enough m
       step (drew x q) e = tt
-      step ranOut e = absurd (subst Enough (times_ends next at n j p l (sym (ap used_by w.drawn)) (sym (ap used_by e))) h)
+      step ran_out e = absurd (subst Enough (times_ends next at n j p l (sym (ap used_by w.drawn)) (sym (ap used_by e))) h)
 
   pub written_all : (n : ℕ) → j ≡ n → (To p ≡ used_by (many_times n next at)) × (out ≡ drawn_over (many_times n next at) d)
   written_all n e =
@@ -141,7 +141,7 @@ module _ (next : ℕ → Drawing) (at : ℕ) (d out : List ℕ) (j p : ℕ) (w :
 -- of the list, where the bytes suffice
 abbrev pub Always : (List ℕ → Type 0) → Drawing → Type 0
 Always P (drew list at) = P list
-Always P ranOut = Unit {0}
+Always P ran_out = Unit {0}
 
 -- n stretches of one size, and what holds of each
 pub record Stretches (P : List ℕ → Type 0) (size n : ℕ) (l : List ℕ) : Type 0 where
@@ -183,11 +183,11 @@ module _ (P : List ℕ → Type 0) (size : ℕ) where
       join : (l : List ℕ) (m : Drawing) → Stretches P size n l → Always (λ (z : List ℕ). (length z ≡ size) × P z) m
           → Always (Stretches P size (suc n)) (made (λ (z : List ℕ). l ++ z) m)
       join l (drew z q) s (e, i) = stretches-more n l z s e i
-      join l ranOut s i = tt
+      join l ran_out s i = tt
 
       step : (d : Drawing) → Always (Stretches P size n) d → Always (Stretches P size (suc n)) (and_then d next)
       step (drew l p) s = join l (next p) s (h p)
-      step ranOut s = tt
+      step ran_out s = tt
 
 -- of the list written so far
 pub written_each : (P : List ℕ → Type 0) (size : ℕ) (next : ℕ → Drawing) → ((p : ℕ) → Always (λ (l : List ℕ). (length l ≡ size) × P l) (next p))
@@ -201,7 +201,7 @@ module _ (limit : ℕ) (random : List ℕ) (p : ℕ) where
   unfolding one_below
   one_got x q e = rw (← e)
 
-  pub one_short : RanOut ≡ draw_below limit random p → one_below limit random p ≡ ranOut
+  pub one_short : RanOut ≡ draw_below limit random p → one_below limit random p ≡ ran_out
   unfolding one_below
   one_short e = rw (← e)
 
@@ -232,7 +232,7 @@ module _ (limit : ℕ) (random : List ℕ) where
             let m = s.len in
             rw e at (s.each j (omega arith)),
       )
-      turn ranOut s = tt
+      turn ran_out s = tt
 
   pub written_bytes : (at : ℕ) (d out : List ℕ) (j p : ℕ) (w : Written (one_below limit random) at d out j p) → length w.list ≡ j
   written_bytes at d out j p w = (subst (Always (λ (l : List ℕ). (length l ≡ j) × Residues limit l)) w.drawn (some_below_lem j at)).0

@@ -20,12 +20,12 @@ draw_below limit random at = draw_left limit (drop at random) at
 -- what a drawing of several gives: what was drawn, and the place after the last byte used; or that the bytes ran out
 pub data Drawing : Type 0 where
   drew : List ℕ → ℕ → Drawing
-  ranOut : Drawing
+  ran_out : Drawing
 
 -- to draw a byte and go on with it from the place after it
 abbrev pub with : Drawn → (ℕ → ℕ → Drawing) → Drawing
 with (Got x next) rest = rest x next
-with RanOut rest = ranOut
+with RanOut rest = ran_out
 
 -- the largest multiple of k up to 256
 abbrev pub largest_multiple : ℕ → ℕ
@@ -51,14 +51,14 @@ draw_permutation n random at = shuffle (n - 1) (identity n) random at
 -- the answer
 abbrev pub used_by : Drawing → Used
 used_by (drew list at) = To at
-used_by ranOut = NoneLeft
+used_by ran_out = NoneLeft
 
 -- the output afterwards: what was drawn over its front, or what it held
 abbrev pub drawn_over : Drawing → List ℕ → List ℕ
 drawn_over (drew list at) d = over list d
-drawn_over ranOut d = d
+drawn_over ran_out d = d
 
 -- the bytes suffice
 abbrev pub Enough : Drawing → Type 0
 Enough (drew list at) = Unit {0}
-Enough ranOut = ⊥
+Enough ran_out = ⊥

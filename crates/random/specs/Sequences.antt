@@ -1,22 +1,22 @@
 -- Drawings one after the other: each starts at the place of the lent bytes where the one before ended.
 use Rattle.std.specs.Prelude.{List, [], ◌∷◌, ◌++◌, ℕ, zero, suc}
 use Rattle.algebra.specs.Residues.{modulus}
-use Rattle.random.specs.Drawings.{draw_below, Drawing, drew, ranOut, with}
+use Rattle.random.specs.Drawings.{draw_below, Drawing, drew, ran_out, with}
 
 -- the list drawn; nothing where the bytes ran out
 abbrev pub list_of : Drawing → List ℕ
 list_of (drew list at) = list
-list_of ranOut = []
+list_of ran_out = []
 
 -- what is made of the list drawn
 abbrev pub made : (List ℕ → List ℕ) → Drawing → Drawing
 made f (drew list at) = drew (f list) at
-made f ranOut = ranOut
+made f ran_out = ran_out
 
 -- a drawing and then another from the place where it ended, the lists joined
 abbrev pub and_then : Drawing → (ℕ → Drawing) → Drawing
 and_then (drew list at) next = made (λ (more : List ℕ). list ++ more) (next at)
-and_then ranOut next = ranOut
+and_then ran_out next = ran_out
 
 -- n times the same
 unfoldable pub many_times : ℕ → (ℕ → Drawing) → ℕ → Drawing

@@ -34,8 +34,8 @@ unfolding reader
 reader-means (Frame a b start) = refl
 reader-means (Refused r) = refl
 
-pub one-reading : (k : Kind) (e : Expected) (s : List ℕ) (a b : Read) → Reads k e s a → Reads k e s b → a ≡ b
-one-reading k e s a b p q = sym (reader-means a) ∙ ap reader (p.says ∙ sym q.says) ∙ reader-means b
+pub one_reading : (k : Kind) (e : Expected) (s : List ℕ) (a b : Read) → Reads k e s a → Reads k e s b → a ≡ b
+one_reading k e s a b p q = sym (reader-means a) ∙ ap reader (p.says ∙ sym q.says) ∙ reader-means b
 
 -- a reader refuses by the numbers up to PERM alone
 values-most : (b at : ℕ) (l : List ℕ) → UpTo PERM (values b at l)
@@ -101,8 +101,8 @@ choices-most n N choices =
 
 -- ---- the check of a named round: its contract is an equation, and so is that of the stretch handed back
 
-pub one-opening_check : (s : List ℕ) (round : ℕ) (a b : Checked) → means a ≡ opening_check s round → means b ≡ opening_check s round → a ≡ b
-one-opening_check s round a b p q = means_fixes a b (p ∙ sym q)
+pub one_opening_check : (s : List ℕ) (round : ℕ) (a b : Checked) → means a ≡ opening_check s round → means b ≡ opening_check s round → a ≡ b
+one_opening_check s round a b p q = means_fixes a b (p ∙ sym q)
 
 -- it refuses by the numbers up to PERM too
 pub opening-most : (s : List ℕ) (round : ℕ) → UpTo PERM (opening_check s round)

@@ -15,9 +15,9 @@ nothing_refused : chain fine fine fine ≡ done (37 ∷ [])
 unfolding chain
 nothing_refused = refl
 
-the_first-refusal_counts : chain fine (demand false VALUE SYSTEM 9) (demand false ROOM OUTPUT 37) ≡ refused 6 1 9
+the_first_refusal_counts : chain fine (demand false VALUE SYSTEM 9) (demand false ROOM OUTPUT 37) ≡ refused 6 1 9
 unfolding chain
-the_first-refusal_counts = refl
+the_first_refusal_counts = refl
 
 the_last_is_reached : chain (demand true SHAPE NONE 0) fine (demand false ROOM OUTPUT 37) ≡ refused 9 11 37
 unfolding chain

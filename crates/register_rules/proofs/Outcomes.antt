@@ -30,8 +30,8 @@ answering-means (Refused r) = refl
 pub verdict_fixes : (a b : Verdict) → verdict_means a ≡ verdict_means b → a ≡ b
 verdict_fixes a b e = sym (answering-means a) ∙ ap answering e ∙ answering-means b
 
-pub one-verdict : (grade : ℕ) (x : SignOn) (a b : Verdict) → Judges grade x a → Judges grade x b → a ≡ b
-one-verdict grade x a b p q = verdict_fixes a b (p.says ∙ sym q.says)
+pub one_verdict : (grade : ℕ) (x : SignOn) (a b : Verdict) → Judges grade x a → Judges grade x b → a ≡ b
+one_verdict grade x a b p q = verdict_fixes a b (p.says ∙ sym q.says)
 
 -- ---- what the verdict tells: one value, N, or a refusal by the numbers up to SECOND
 
@@ -61,14 +61,14 @@ module _ (x : SignOn) where
   number-most true = (omega arith, omega arith)
 
   -- what the rounds tell, by whether all pass
-  abbrev roundsTold : Bool → Told
-  roundsTold all = cond all (done (rounds_in x ∷ [])) (refused (number_of (bit_in x (rounds_passed x))) OPENINGS (rounds_passed x))
+  abbrev rounds_told : Bool → Told
+  rounds_told all = cond all (done (rounds_in x ∷ [])) (refused (number_of (bit_in x (rounds_passed x))) OPENINGS (rounds_passed x))
 
-  told-most : (all : Bool) → UpTo SECOND (roundsTold all)
+  told-most : (all : Bool) → UpTo SECOND (rounds_told all)
   told-most true = done_most SECOND (rounds_in x ∷ [])
   told-most false = λ k l p e. let q : number_of (bit_in x (rounds_passed x)) ≡ k = cc in rw q at (number-most (bit_in x (rounds_passed x)))
 
-  told-one : (all : Bool) (values : List ℕ) → roundsTold all ≡ done values → values ≡ rounds_in x ∷ []
+  told-one : (all : Bool) (values : List ℕ) → rounds_told all ≡ done values → values ≡ rounds_in x ∷ []
   told-one true values e = cc
   told-one false values e = let z : ◌≡◌ {A = ℕ} 0 1 = cc in absurd (omega arith)
 
@@ -76,7 +76,7 @@ module _ (x : SignOn) where
     pub judging-most : UpTo SECOND (judging grade x)
     unfolding judging rounds_check
     judging-most =
-        let rounds = roundsTold (eqb (rounds_passed x) (rounds_in x)) in
+        let rounds = rounds_told (eqb (rounds_passed x) (rounds_in x)) in
         first-most SECOND (frames_check x) (first (demand (enough grade (rounds_in x)) WEAK NONE 0) rounds) frames-most
         (test_most SECOND (enough grade (rounds_in x)) WEAK NONE 0 rounds (omega arith) (omega arith) (told-most (eqb (rounds_passed x) (rounds_in x))))
 
@@ -84,5 +84,5 @@ module _ (x : SignOn) where
     unfolding judging rounds_check
     judging-one values e =
         let weak = demand (enough grade (rounds_in x)) WEAK NONE 0 in
-        let rounds = roundsTold (eqb (rounds_passed x) (rounds_in x)) in
+        let rounds = rounds_told (eqb (rounds_passed x) (rounds_in x)) in
         told-one (eqb (rounds_passed x) (rounds_in x)) values (first_done weak rounds values (first_done (frames_check x) (first weak rounds) values e).1).1

@@ -31,14 +31,14 @@ one_outcome m r q h k =
     ap₂ (λ (x : Checked) (y : List ℕ). record { answer = x; digest = y }) a d
 
 -- nothing is lent to the call for writing: all that a refused call leaves is its answer and 32 zeros, whatever the message
-pub refused_shows-nothing : (m : List ℕ) (r : Hashed) → Hashes m r → LONGEST < length m → (means r.answer ≡ refused SHAPE CHOICES 0) × (r.digest ≡ replicate 32 0)
-refused_shows-nothing m r h long =
+pub refused_shows_nothing : (m : List ℕ) (r : Hashed) → Hashes m r → LONGEST < length m → (means r.answer ≡ refused SHAPE CHOICES 0) × (r.digest ≡ replicate 32 0)
+refused_shows_nothing m r h long =
     let t : means r.answer ≡ refused SHAPE CHOICES 0 = h.says ∙ sym (told_long m long) in
     (t, h.shows ∙ ap (λ (x : Told). shown_of x m) t)
 
 -- any other call has the digest
-pub fine-shows_digest : (m : List ℕ) (r : Hashed) → Hashes m r → length m ≤ LONGEST → (means r.answer ≡ fine) × (r.digest ≡ digest_of m)
-fine-shows_digest m r h fits =
+pub fine_shows_digest : (m : List ℕ) (r : Hashed) → Hashes m r → length m ≤ LONGEST → (means r.answer ≡ fine) × (r.digest ≡ digest_of m)
+fine_shows_digest m r h fits =
     let t : means r.answer ≡ fine = h.says ∙ sym (told-fine m fits) in
     (t, h.shows ∙ ap (λ (x : Told). shown_of x m) t)
 

@@ -42,6 +42,6 @@ longest_taken : (m : List ℕ) → length m ≡ 65535 → told_of m ≡ done []
 unfolding told_of
 longest_taken m e = rw e
 
-one-more_refused : (m : List ℕ) → length m ≡ 65536 → told_of m ≡ refused 5 4 0
+one_more_refused : (m : List ℕ) → length m ≡ 65536 → told_of m ≡ refused 5 4 0
 unfolding told_of
-one-more_refused m e = rw e
+one_more_refused m e = rw e

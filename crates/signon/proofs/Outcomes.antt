@@ -23,8 +23,8 @@ same_left a b e next was x y p q = p ∙ ap (λ (t : Answer). if_done t next was
 -- ---- hash, writers, drawings, key making, the stand-in: one record serves them all. Readers, key check and verdict promise an equation.
 
 module _ (t : Told) (filled out : List ℕ) (a : Answer) (x : List ℕ) (p : OutputForC t filled out a x) where
-  pub one-output_for_c : (b : Answer) (y : List ℕ) → OutputForC t filled out b y → (a ≡ b) × (x ≡ y)
-  one-output_for_c b y q =
+  pub one_output_for_c : (b : Answer) (y : List ℕ) → OutputForC t filled out b y → (a ≡ b) × (x ≡ y)
+  one_output_for_c b y q =
       let e = p.says ∙ sym q.says in
       (e, same_left a b e filled out x y p.writes q.writes)
 
@@ -34,8 +34,8 @@ module _ (t : Told) (filled out : List ℕ) (a : Answer) (x : List ℕ) (p : Out
 -- ---- the card
 
 module _ (s : Session) (N : ℕ) (k : Keys) (choices out : List ℕ) (a : Answer) (n : Session) (x : List ℕ) (p : BeginForC s N k choices out a n x) where
-  pub one-begin_for_c : (b : Answer) (m : Session) (y : List ℕ) → BeginForC s N k choices out b m y → (a ≡ b) × (n ≡ m) × (x ≡ y)
-  one-begin_for_c b m y q =
+  pub one_begin_for_c : (b : Answer) (m : Session) (y : List ℕ) → BeginForC s N k choices out b m y → (a ≡ b) × (n ≡ m) × (x ≡ y)
+  one_begin_for_c b m y q =
       let e = p.says ∙ sym q.says in
       (e, same_left a b e _ s n m p.moves q.moves, same_left a b e _ out x y p.writes q.writes)
 
@@ -43,8 +43,8 @@ module _ (s : Session) (N : ℕ) (k : Keys) (choices out : List ℕ) (a : Answer
   refused_begin_for_c f = (p.moves ∙ refused_leaves a f _ s, p.writes ∙ refused_leaves a f _ out)
 
 module _ (s : Session) (k : Keys) (message choices out : List ℕ) (a : Answer) (n : Session) (x : List ℕ) (p : AnswerForC s k message choices out a n x) where
-  pub one-answer_for_c : (b : Answer) (m : Session) (y : List ℕ) → AnswerForC s k message choices out b m y → (a ≡ b) × (n ≡ m) × (x ≡ y)
-  one-answer_for_c b m y q =
+  pub one_answer_for_c : (b : Answer) (m : Session) (y : List ℕ) → AnswerForC s k message choices out b m y → (a ≡ b) × (n ≡ m) × (x ≡ y)
+  one_answer_for_c b m y q =
       let e = p.says ∙ sym q.says in
       (e, same_left a b e _ s n m p.moves q.moves, same_left a b e _ out x y p.writes q.writes)
 

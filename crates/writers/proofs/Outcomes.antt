@@ -30,28 +30,28 @@ writer-means (Refused r) = refl
 pub written_fixes : (a b : Written) → written_means a ≡ written_means b → a ≡ b
 written_fixes a b e = sym (writer-means a) ∙ ap writer e ∙ writer-means b
 
-pub one-writing : (k : Kind) (a b : ℕ) (plain out : List ℕ) (r q : Written) (x y : List ℕ)
+pub one_writing : (k : Kind) (a b : ℕ) (plain out : List ℕ) (r q : Written) (x y : List ℕ)
     → Writes k a b plain out r x → Writes k a b plain out q y → (r ≡ q) × (x ≡ y)
-one-writing k a b plain out r q x y p s =
+one_writing k a b plain out r q x y p s =
     let e : r ≡ q = written_fixes r q (p.says ∙ sym s.says) in
     (e, p.writes ∙ ap (λ (t : Written). out_after t (frame k a b plain) out) e ∙ sym s.writes)
 
-pub refused_writes-nothing : (k : Kind) (a b : ℕ) (plain out : List ℕ) (r : Refusal) (after : List ℕ)
+pub refused_writes_nothing : (k : Kind) (a b : ℕ) (plain out : List ℕ) (r : Refusal) (after : List ℕ)
     → Writes k a b plain out (Refused r) after → after ≡ out
-refused_writes-nothing k a b plain out r after p = p.writes
+refused_writes_nothing k a b plain out r after p = p.writes
 
 -- ---- ROOM after a check, and then the bytes written: by which numbers it is refused, and what a success tells
 
 module _ (check : Told) (need room : ℕ) where
-  abbrev roomTold : Told
-  roomTold = first (demand (leb need room) ROOM OUTPUT need) (done (need ∷ []))
+  abbrev room_told : Told
+  room_told = first (demand (leb need room) ROOM OUTPUT need) (done (need ∷ []))
 
-  pub room_most : UpTo ROOM check → UpTo ROOM (first check roomTold)
+  pub room_most : UpTo ROOM check → UpTo ROOM (first check room_told)
   room_most h =
-      first-most ROOM check roomTold h (test_most ROOM (leb need room) ROOM OUTPUT need (done (need ∷ [])) (omega arith) (omega arith) (done_most ROOM (need ∷ [])))
+      first-most ROOM check room_told h (test_most ROOM (leb need room) ROOM OUTPUT need (done (need ∷ [])) (omega arith) (omega arith) (done_most ROOM (need ∷ [])))
 
-  pub room_one : (values : List ℕ) → first check roomTold ≡ done values → values ≡ need ∷ []
-  room_one values e = ends_done (demand (leb need room) ROOM OUTPUT need) (need ∷ []) values (first_done check roomTold values e).1
+  pub room_one : (values : List ℕ) → first check room_told ≡ done values → values ≡ need ∷ []
+  room_one values e = ends_done (demand (leb need room) ROOM OUTPUT need) (need ∷ []) values (first_done check room_told values e).1
 
 plain_most : (k : Kind) (a b : ℕ) (plain : List ℕ) → UpTo ROOM (plain_check k a b plain)
 unfolding plain_check
