@@ -9,7 +9,6 @@ import glob
 import re
 import sys
 
-WORD = re.compile(r"(?<![\w'.◌-])[^\W\d][\w']*(?:-[\w'*]+)*")
 DECLARED = re.compile(r"^(?:unfoldable |abbrev )?(?:pub )?(?:record |data )?([^\W\d][\w'-]*) (?:: |\()", re.M)
 FIELD = re.compile(r"^  pub ([^\W\d][\w'-]*) :", re.M)
 

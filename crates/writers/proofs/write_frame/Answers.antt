@@ -1,5 +1,4 @@
 -- `write_frame` meets its contract: nothing is written before the last check.
--- past the plain buffer
 use mathlib.Core.Path.{refl, sym, ap, ◌∙◌}
 use mathlib.Core.List.{[]}
 use native.Mathlib.Omega.{arith}
@@ -8,8 +7,13 @@ use Rattle.refusals.proofs.Chain.{goes_on, stops}
 use Rattle.kinds.specs.Kinds.{frame_size}
 use Rattle.writers.specs.Writing.{writing}
 use Rattle.frames.proofs.Facts.{numbers-small, size_small}
-use Rattle.writers.proofs.Writing.{plain_told, no_room, room_enough}
+use Rattle.writers.proofs.Writing.{Plain, plain_told, no_room, room_enough}
 use Rattle.writers.proofs.write_frame.Goals as goal
+use Rattle.writers.proofs.write_frame.Goals.{In_default}
+
+-- past the plain buffer
+past_plain : (c : In_default) → Plain c.args.kind c.args.a c.args.b c.args.plain.now
+past_plain c = plain_told _ _ _ _ [] (sym c.check_plain.ensures ∙ ap means c.in_default.is)
 
 pub returns-in-Refused : goal.returns-in-Refused
 unfolding writing
@@ -18,7 +22,7 @@ returns-in-Refused c = record { says = stops _ c.check_plain.ensures c.in-Refuse
 pub returns-then-out-need : goal.returns-then-out-need
 unfolding writing
 returns-then-out-need c = let g = c.args in
-    let h = ((plain_told _ _ _ _ [] (sym c.check_plain.ensures ∙ ap means c.in_default.is))).size in
+    let h = (past_plain (goal.at.returns-then-out-need c).In_default).size in
     record {
       says = goes_on c.check_plain.ensures c.in_default.is
           (no_room (frame_size g.kind g.a g.b) _ _ (omega (arith, c.start_of.ensures.0)) c.if-out-need.true);
@@ -27,7 +31,7 @@ returns-then-out-need c = let g = c.args in
 
 pub put_frame-requires : goal.put_frame-requires
 put_frame-requires c = let g = c.args in
-    let h = (plain_told _ _ _ _ [] (sym c.check_plain.ensures ∙ ap means c.in_default.is)) in
+    let h = past_plain (goal.at.put_frame-requires c).In_default in
     let z = h.size in
     let n = numbers-small g.kind g.a g.b h.numbers in
     let m = size_small g.kind g.a g.b n.0 n.1 in
@@ -36,7 +40,7 @@ put_frame-requires c = let g = c.args in
 pub returns : goal.returns
 unfolding writing
 returns c = let g = c.args in
-    let h = ((plain_told _ _ _ _ [] (sym c.check_plain.ensures ∙ ap means c.in_default.is))).size in
+    let h = (past_plain (goal.at.returns c).In_default).size in
     record {
       says = goes_on c.check_plain.ensures c.in_default.is
           (room_enough (frame_size g.kind g.a g.b) _ _ (omega (arith, c.start_of.ensures.0)) c.if-out-need.false);

@@ -1,5 +1,4 @@
 -- `read_frame` meets its contract: three checks in a row, and what a check that passed says is what the next one asks.
--- past the header
 use mathlib.Core.Path.{sym, ap, ap₂, ◌∙◌}
 use mathlib.Core.List.{[], ◌∷◌}
 use native.Mathlib.Omega.{arith}
@@ -8,16 +7,25 @@ use Rattle.refusals.specs.Told.{done, means}
 use Rattle.refusals.proofs.Chain.{goes_on, stops, demand_done}
 use Rattle.kinds.specs.Kinds.{table}
 use Rattle.frames.specs.Reading.{first_of, second_of, reading}
-use Rattle.frames.proofs.Facts.{header-told, first_modest, shape-told, rest-length, start_five}
+use Rattle.frames.proofs.Facts.{Headed, header-told, first_modest, Shaped, shape-told, rest-length, start_five}
 use Rattle.frames.proofs.Orders.{rest_part, content-read, numbers-read}
 use Rattle.frames.proofs.read.read_frame.Goals as goal
+use Rattle.frames.proofs.read.read_frame.Goals.{In_default, In_default-check_shape}
+
+-- past the header
+past_header : (c : In_default) → Headed c.args.kind c.args.s.now
+past_header c = header-told _ _ [] (sym c.check_header.ensures ∙ ap means c.in_default.is)
+
+-- past SHAPE
+past_shape : (c : In_default-check_shape) → Shaped c.args.kind c.args.expected c.args.s.now
+past_shape c = shape-told _ _ _ (demand_done _ _ _ _ [] (sym c.check_shape.ensures ∙ ap means c.in_default-check_shape.is))
 
 pub returns-in-Refused : goal.returns-in-Refused
 unfolding reading
 returns-in-Refused c = record { says = stops _ c.check_header.ensures c.in-Refused.is }
 
 pub check_shape-requires : goal.check_shape-requires
-check_shape-requires c = let w = ((header-told _ _ [] (sym c.check_header.ensures ∙ ap means c.in_default.is))).whole in
+check_shape-requires c = let w = (past_header (goal.at.check_shape-requires c).In_default).whole in
     let k = c.type_inv.s in
     omega (arith, k 0, k 1)
 
@@ -29,27 +37,27 @@ returns-in-Refused-check_shape c = record {
 }
 
 pub bounds-s-4 : goal.bounds-s-4
-bounds-s-4 c = let h = ((shape-told _ _ _ (demand_done _ _ _ _ [] (sym c.check_shape.ensures ∙ ap means c.in_default-check_shape.is)))).there in let f = start_five c.args.kind in omega arith
+bounds-s-4 c = let h = (past_shape (goal.at.bounds-s-4 c).In_default-check_shape).there in let f = start_five c.args.kind in omega arith
 
 pub second_of-second-requires : goal.second_of-second-requires
-second_of-second-requires c = ((shape-told _ _ _ (demand_done _ _ _ _ [] (sym c.check_shape.ensures ∙ ap means c.in_default-check_shape.is)))).there
+second_of-second-requires c = (past_shape (goal.at.second_of-second-requires c).In_default-check_shape).there
 
 pub slice_bounds-check_content-count : goal.slice_bounds-check_content-count
-slice_bounds-check_content-count c = let h = ((shape-told _ _ _ (demand_done _ _ _ _ [] (sym c.check_shape.ensures ∙ ap means c.in_default-check_shape.is)))).there in omega (arith, c.start_of-start.ensures.0)
+slice_bounds-check_content-count c = let h = (past_shape (goal.at.slice_bounds-check_content-count c).In_default-check_shape).there in omega (arith, c.start_of-start.ensures.0)
 
 pub slice_bounds-check_content-start : goal.slice_bounds-check_content-start
-slice_bounds-check_content-start c = let h = ((shape-told _ _ _ (demand_done _ _ _ _ [] (sym c.check_shape.ensures ∙ ap means c.in_default-check_shape.is)))).there in omega (arith, c.start_of-start.ensures.0)
+slice_bounds-check_content-start c = let h = (past_shape (goal.at.slice_bounds-check_content-start c).In_default-check_shape).there in omega (arith, c.start_of-start.ensures.0)
 
 pub check_content-requires : goal.check_content-requires
 check_content-requires c = let s = c.args.s.now in
-    let h = (shape-told _ _ _ (demand_done _ _ _ _ [] (sym c.check_shape.ensures ∙ ap means c.in_default-check_shape.is))) in
+    let h = past_shape (goal.at.check_content-requires c).In_default-check_shape in
     let w = h.whole in
     let a = c.wide-first.ensures.0 in
     let p = c.start_of-start.ensures.0 in
     let n = rest_part c.args.kind s _ p in
     let z = ap length n ∙ rest-length c.args.kind c.args.expected s h ∙ sym (ap₂ (table c.args.kind).size a c.second_of-second.ensures.0) in
     let e = ap length n in
-    let m = ((header-told _ _ [] (sym c.check_header.ensures ∙ ap means c.in_default.is))).whole in
+    let m = (past_header (goal.at.check_content-requires c).In_default).whole in
     let k = c.type_inv.s in (
       rw a (first_modest c.args.kind c.args.expected _ _ c.requires h.numbers),
       z,
