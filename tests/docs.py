@@ -62,8 +62,9 @@ def passages(lines, part):
 
 
 def declares(path):
-    """Whether a path such as `readers::opening::opening` names a function, type or constant of a crate."""
+    """Whether a path such as `readers::opening::opening` or `kinds::Kind::number` names a function, method, type or constant of a crate."""
     crate, *modules, name = path.split("::")
+    modules = [module for module in modules if module.islower()]
     sources = [ROOT.joinpath("crates", crate, "src", *place).with_suffix(".rt") for place in ([modules] if modules else [["lib"], ["main"]])]
     return any(source.is_file() and re.search(rf"\b(fn|struct|enum|const) {name}\b", read(source)) for source in sources)
 
@@ -114,9 +115,9 @@ def said_by_hand(text):
 
 
 def documents():
-    """The documents and their lines, but for docs/PORT.md, which names what is gone."""
+    """The documents and their lines, but for docs/PORT.md and docs/DESIGN-PASS.md, which name what is gone."""
     for path in [ROOT / "README.md", *sorted(ROOT.glob("docs/*.md")), *sorted(ROOT.glob("*/README.md")), *sorted(ROOT.glob("*/*/README.md"))]:
-        if path.name != "PORT.md":
+        if path.name not in ("PORT.md", "DESIGN-PASS.md"):
             yield path.relative_to(ROOT), read(path).splitlines()
 
 

@@ -5,13 +5,15 @@ use mathlib.Core.List.{List, [], ◌∷◌, ◌++◌, append_assoc}
 use Prim.Native.Nat.{ℕ, zero, suc, ◌+◌, ◌-◌, ◌*◌, ◌≤◌, ◌<◌}
 use native.Mathlib.Nat.{not-suc-le-zero, le_refl, le_trans, le_of_eq, zero-mul, suc-mul, mul-le-mul_right}
 use native.Mathlib.Numerals.{add-one}
-use native.Mathlib.Decide.{ℕ_discrete}
+use native.Mathlib.Decide.{ℕ_discrete, dec_lt}
 use native.Mathlib.Omega.{arith}
 use borrow.Author.Tests.{eqb-true, eq-eqb}
 use lib.Dec.{eqb}
 use lib.ListN.{length, get_or, take, drop, set, length-append, length-take, length-drop, length-set, take-append-drop, get_or-append}
 use borrow.Rule.Slice.PartMut.{put_mid, mid_of}
 use lib.Seq.{take_all, take-append-le, take_at, drop_at, drop-cons, drop-drop, drop-append-le, set_at, append_snoc, get_or_at, ext_get_or}
+use Rattle.std.specs.Prelude.{Option, Some, None, MatchOption}
+use Rattle.std.specs.Option.{unwrap_or}
 use Rattle.algebra.specs.Lists.{tab, all_below, same_bytes, count, first_from, stretch, joined, over, over_at}
 
 -- two lists of n are equal by their entries
@@ -136,6 +138,25 @@ found f (suc left) k = step (f k) refl (found f left (suc k))
         at : (j : ℕ) → k ≤ j → j < first_from left (suc k) f → Dec (j ≡ k) → f j ≡ false
         at j h l (yes q) = ap f q ∙ e
         at j h l (no q) = r.before j (omega arith) l
+
+-- so it is the only such place
+only : (f : ℕ → Bool) (n i k : ℕ) → i ≤ n → ((j : ℕ) → j < i → f j ≡ false) → (i < n → f i ≡ true) → Found f 0 (0 + n) k → i ≡ k
+only f n i k most before here g = step (dec_lt i k) (dec_lt k i)
+  where
+    m : k ≤ 0 + n
+    m = g.most
+
+    step : Dec (i < k) → Dec (k < i) → i ≡ k
+    step (yes l) d = absurd (false≢true (sym (g.before i (omega arith) l) ∙ here (omega arith)))
+    step (no p) (yes l) = absurd (false≢true (sym (before k l) ∙ g.here (omega arith)))
+    step (no p) (no q) = omega arith
+
+-- what `find` over the numbers below n answers, and n where it finds none
+pub first_of : (f : ℕ → Bool) (n : ℕ) (r : Option ℕ)
+    → MatchOption r ((k : ℕ) → 0 ≤ k → k < n → f k ≡ false) (λ i. (0 ≤ i) × (i < n) × (f i ≡ true) × ((k : ℕ) → 0 ≤ k → k < i → f k ≡ false))
+    → unwrap_or r n ≡ first_from n 0 f
+first_of f n None h = only f n n (first_from n 0 f) (le_refl n) (λ j l. h j (omega arith) l) (λ l. absurd (omega arith)) (found f n 0)
+first_of f n (Some i) h = only f n i (first_from n 0 f) (omega arith) (λ j l. h.3 j (omega arith) l) (λ l. h.2) (found f n 0)
 
 -- ---- stretches
 

@@ -70,20 +70,20 @@ is_perm-false s f = go (is_perm (length s) s) refl
     go true e = absurd (f (is_perm→ (length s) s e))
     go false e = refl
 
--- a byte that names no place
-pub no_place : (s : List ℕ) (i : ℕ) → i < length s → length s ≤ get_or s i 0 → false ≡ is_perm (length s) s
-no_place s i l h = is_perm-false s (λ q. let a = below (length s) s q i l in omega arith)
+-- a byte k that names no place
+pub no_place : (s : List ℕ) (i k : ℕ) → i < length s → k ≡ get_or s i 0 → length s ≤ k → false ≡ is_perm (length s) s
+no_place s i k l e h = is_perm-false s (λ q. let a = below (length s) s q i l in omega arith)
 
--- a byte that was seen before
-pub seen_before : (s : List ℕ) (i : ℕ) → i < length s → get_or s i 0 < length s → count (get_or s i 0) (take i s) ≡ 1
+-- a byte k that was seen before
+pub seen_before : (s : List ℕ) (i k : ℕ) → i < length s → k ≡ get_or s i 0 → k < length s → count k (take i s) ≡ 1
     → false ≡ is_perm (length s) s
-seen_before s i l b h =
+seen_before s i k l e b h =
     is_perm-false s
     (λ q.
-    let a = q.once (get_or s i 0) b in
-    let d = count-take (get_or s i 0) s i l in
-    let e : ◌≡◌ {A = ℕ} (cond (eqb (get_or s i 0) (get_or s i 0)) 1 0) 1 = rw (eq-eqb (get_or s i 0) (get_or s i 0) refl) in
-    let f = count-take-le (get_or s i 0) s (i + 1) in
+    let a = q.once k b in
+    let d = count-take k s i l in
+    let g : ◌≡◌ {A = ℕ} (cond (eqb k (get_or s i 0)) 1 0) 1 = rw (eq-eqb k (get_or s i 0) e) in
+    let f = count-take-le k s (i + 1) in
     omega arith)
 
 -- ---- the marks after i bytes
@@ -99,18 +99,17 @@ marked_none s =
       place = λ j l. absurd (not-suc-le-zero l);
     }
 
-pub marked_more : (s : List ℕ) (i : ℕ) (seen : List Bool) → Marked s i seen → i < length s → get_or s i 0 < length s → get_or s i 0 < length seen
-    → get_or seen (get_or s i 0) false ≡ false → Marked s (i + 1) (set seen (get_or s i 0) true)
-marked_more s i seen inv h lo b off =
-    record { mark = λ k l. count-take k s i h ∙ step k l (ℕ_discrete k (get_or s i 0)); place = λ j l. at j l (ℕ_discrete j i) }
+pub marked_more : (s : List ℕ) (i k : ℕ) (seen : List Bool) → Marked s i seen → i < length s → k ≡ get_or s i 0 → k < length s → k < length seen
+    → get_or seen k false ≡ false → Marked s (i + 1) (set seen k true)
+marked_more s i k seen inv h e lo b off =
+    record { mark = λ j l. count-take j s i h ∙ step j l (ℕ_discrete j k); place = λ j l. at j l (ℕ_discrete j i) }
   where
-    step : (k : ℕ) → k < longest → Dec (k ≡ get_or s i 0)
-        → count k (take i s) + cond (eqb k (get_or s i 0)) 1 0 ≡ cond (get_or (set seen (get_or s i 0) true) k false) 1 0
-    step k l (yes e) = rw (inv.mark k l, e, off, eq-eqb (get_or s i 0) (get_or s i 0) refl, get_or-set_same seen (get_or s i 0) true false b)
-    step k l (no q) = rw (inv.mark k l, ne_eqb k (get_or s i 0) q, get_or-set_other seen (get_or s i 0) k true false q) (omega arith)
+    step : (j : ℕ) → j < longest → Dec (j ≡ k) → count j (take i s) + cond (eqb j (get_or s i 0)) 1 0 ≡ cond (get_or (set seen k true) j false) 1 0
+    step j l (yes q) = rw (← e, inv.mark j l, q, off, eq-eqb k k refl, get_or-set_same seen k true false b)
+    step j l (no q) = rw (← e, inv.mark j l, ne_eqb j k q, get_or-set_other seen k j true false q) (omega arith)
 
     at : (j : ℕ) → j < i + 1 → Dec (j ≡ i) → get_or s j 0 < length s
-    at j l (yes e) = rw e lo
+    at j l (yes q) = rw (q, ← e) lo
     at j l (no q) = inv.place j (omega arith)
 
 -- each byte names a place, and none twice

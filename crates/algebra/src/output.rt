@@ -1,4 +1,4 @@
-// Outputs.
+// Outputs. Bytes are copied one by one, which compiled code does by memcpy: copy_from_slice would have the archive ask its host for memmove too.
 ghost use Rattle.std.specs.Prelude.{◌≡◌, ◌+◌, ◌≤◌, length};
 ghost use Rattle.algebra.specs.Lists.{over, over_at};
 
@@ -7,10 +7,8 @@ pub fn copy_into(list: &[u8], out: &mut [u8])
     requires { length list.now ≤ length out.old }
     ensures { out.new ≡ over list.now out.old }
 {
-    let mut j: usize = 0;
-    while j < list.len() {
-        out[j] = list[j];
-        j += 1;
+    for (j, x) in list.iter().enumerate() {
+        out[j] = *x;
     }
 }
 

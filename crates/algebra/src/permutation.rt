@@ -12,17 +12,12 @@ pub fn is_permutation(s: &[u8]) -> bool
 {
     let n = s.len();
     let mut seen = [false; LONGEST];
-    let mut i: usize = 0;
-    while i < n {
-        let k = s[i] as usize;
-        if n <= k {
-            return false;
-        }
-        if seen[k] {
+    for x in s {
+        let k = usize::from(*x);
+        if n <= k || seen[k] {
             return false;
         }
         seen[k] = true;
-        i += 1;
     }
     true
 }
@@ -32,10 +27,8 @@ pub fn permute_into(v: &[u8], theta: &[u8], out: &mut [u8])
     requires { IsPerm (length theta.now) theta.now × (length v.now ≡ length theta.now) × (length theta.now ≤ length out.old) }
     ensures { out.new ≡ over (permute v.now theta.now) out.old }
 {
-    let mut j: usize = 0;
-    while j < theta.len() {
-        out[j] = v[theta[j] as usize];
-        j += 1;
+    for (j, k) in theta.iter().enumerate() {
+        out[j] = v[usize::from(*k)];
     }
 }
 
@@ -52,9 +45,7 @@ pub fn unpermute_into(w: &[u8], sigma: &[u8], out: &mut [u8])
     requires { IsPerm (length sigma.now) sigma.now × (length w.now ≡ length sigma.now) × (length sigma.now ≤ length out.old) }
     ensures { out.new ≡ over (unpermute (length sigma.now) w.now sigma.now) out.old }
 {
-    let mut j: usize = 0;
-    while j < sigma.len() {
-        out[sigma[j] as usize] = w[j];
-        j += 1;
+    for (k, x) in sigma.iter().zip(w) {
+        out[usize::from(*k)] = *x;
     }
 }

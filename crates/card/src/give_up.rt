@@ -1,26 +1,15 @@
 // Give up: record and choices are zeroed.
-ghost use Rattle.std.specs.Prelude.{◌≡◌};
-ghost use Rattle.card_steps.specs.Steps.{zeroed, GiveUpStep};
+ghost use Rattle.card_steps.specs.Steps.{GiveUpStep};
 
 use card_rules::session::{IDLE, Session};
 use kinds::MOST_ROUNDS;
 
-// Fills the bytes with zeros.
-pub fn zero(bytes: &mut [u8])
-    ensures { bytes.new ≡ zeroed bytes.old }
-{
-    let mut i: usize = 0;
-    while i < bytes.len() {
-        bytes[i] = 0;
-        i += 1;
-    }
-}
-
 // Never refused, whatever the record and however long the choices.
+#[tactic(auto, unfolding(card_steps::specs::Steps::fresh))]
 pub fn give_up_step(session: Session, choices: &mut [u8]) -> Session
     ensures { GiveUpStep session choices.old result choices.new }
 {
-    zero(choices);
+    choices.fill(0);
     Session {
         stage: IDLE,
         n: 0,

@@ -7,22 +7,19 @@ ghost use Rattle.kinds.specs.Kinds.{most_rounds};
 ghost use Rattle.writers.specs.Writing.{frame};
 ghost use Rattle.rounds.specs.Layout.{CardFits};
 ghost use Rattle.rounds.specs.Rounds.{opening_at};
-ghost use Rattle.card_rules.specs.Keys.{keys};
+ghost use Rattle.card_rules.specs.Parts.{as_keys};
 ghost use Rattle.card_rules.specs.Asking.{openings_size};
 ghost use Rattle.card_steps.specs.Steps.{OpenReady, own_check, open_refusal, OpenStep};
 
-use crate::give_up::zero;
-use algebra::wide;
 use card_checks::order::check_open;
 use card_rounds::open_all;
+use card_rules::keys::Keys;
 use card_rules::session::{CLOSED, Session};
 use card_steps::Step;
-use kinds::{AFTER_ONE, AFTER_TWO, FIRST_NUMBER, Kind, SECOND_NUMBER};
+use kinds::{AFTER_ONE, AFTER_TWO, Kind};
 use own_check::own_failing;
-use refusals::buffer::CHOICES;
-use refusals::number::SELF;
-use refusals::{Checked, refuse};
-use writers::{Written, put_heading};
+use refusals::{Buffer, Reason, Refusal, refuse};
+use writers::put_heading;
 
 // Writes the frame of all openings, for which there is room.
 fn put_openings(pi: &[u8], n: usize, rounds: usize, bits: &[u8], choices: &[u8], out: &mut [u8])
@@ -34,102 +31,71 @@ fn put_openings(pi: &[u8], n: usize, rounds: usize, bits: &[u8], choices: &[u8],
 }
 
 // SELF: one function, called last. The frames and the record have passed their checks.
-fn check_own(
-    session: Session,
-    system: &[u8],
-    public: &[u8],
-    secret: &[u8],
-    message: &[u8],
-    choices: &[u8],
-) -> Checked
-    requires { OpenReady session (keys system.now public.now secret.now) message.now choices.now }
-    ensures { means result ≡ own_check session (keys system.now public.now secret.now) message.now choices.now }
+fn check_own(session: Session, keys: &Keys, message: &[u8], choices: &[u8]) -> Result<(), Refusal>
+    requires { OpenReady session (as_keys keys.now) message.now choices.now }
+    ensures { means result ≡ own_check session (as_keys keys.now) message.now choices.now }
 {
-    let rounds = wide(session.rounds);
-    let kept = session.challenges;
-    let failing = own_failing(
-        &system[AFTER_TWO..],
-        wide(system[FIRST_NUMBER]),
-        wide(system[SECOND_NUMBER]),
-        &public[AFTER_ONE..],
-        &secret[AFTER_ONE..],
+    let rounds = usize::from(session.rounds);
+    match own_failing(
+        &keys.matrix(),
+        keys.vector(),
+        keys.permutation(),
         rounds,
         choices,
-        kept,
+        session.challenges,
         &message[AFTER_ONE..],
-    );
-    if failing != rounds {
-        return refuse(SELF, CHOICES, failing);
+    ) {
+        Some(round) => refuse(Reason::SelfCheck, Buffer::Choices, round),
+        None => Ok(()),
     }
-    Checked::Fine
 }
 
 // All that may refuse: the checks, and the card's own check at last.
 fn check_all(
     session: Session,
-    system: &[u8],
-    public: &[u8],
-    secret: &[u8],
+    keys: &Keys,
     message: &[u8],
     choices: &[u8],
     room: usize,
-) -> Checked
-    ensures { means result ≡ open_refusal session (keys system.now public.now secret.now) message.now choices.now room }
+) -> Result<(), Refusal>
+    ensures { means result ≡ open_refusal session (as_keys keys.now) message.now choices.now room }
 {
-    if let Checked::Refused(x) = check_open(
-        session, system, public, secret, message, choices, room,
-    ) {
-        return Checked::Refused(x);
-    }
-    check_own(session, system, public, secret, message, choices)
+    check_open(session, keys, message, choices, room)?;
+    check_own(session, keys, message, choices)
 }
 
 // From answered to closed.
 pub fn open_step(
     session: Session,
-    system: &[u8],
-    public: &[u8],
-    secret: &[u8],
+    keys: &Keys,
     message: &[u8],
     choices: &mut [u8],
     out: &mut [u8],
 ) -> Step
-    ensures { OpenStep session (keys system.now public.now secret.now) message.now choices.old out.old result choices.new out.new }
+    ensures { OpenStep session (as_keys keys.now) message.now choices.old out.old result choices.new out.new }
 {
-    if let Checked::Refused(x) = check_all(
-        session,
-        system,
-        public,
-        secret,
-        message,
-        &choices[..],
-        out.len(),
-    ) {
+    if let Err(x) = check_all(session, keys, message, &choices[..], out.len()) {
         return Step {
-            told: Written::Refused(x),
+            told: Err(x),
             next: session,
         };
     }
-    let n = wide(system[FIRST_NUMBER]);
-    let rounds = wide(session.rounds);
+    let n = keys.matrix().n;
+    let rounds = usize::from(session.rounds);
     put_openings(
-        &secret[AFTER_ONE..],
+        keys.permutation(),
         n,
         rounds,
         &message[AFTER_ONE..],
         &choices[..],
         out,
     );
-    zero(choices);
-    let kept = session.challenges;
+    choices.fill(0);
     Step {
-        told: Written::Wrote(AFTER_TWO + n * rounds),
+        told: Ok(AFTER_TWO + n * rounds),
         next: Session {
             stage: CLOSED,
-            n: session.n,
-            m: session.m,
-            rounds: session.rounds,
-            challenges: kept,
+            ..session
         },
     }
 }

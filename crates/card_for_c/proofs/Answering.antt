@@ -6,6 +6,8 @@ use Prim.Native.Nat.{ℕ}
 use native.Mathlib.Omega.{arith}
 use borrow.Author.Tests.{ne_eqb}
 use lib.Dec.{eqb}
+use Rattle.refusals.specs.Number.{reason_number}
+use Rattle.refusals.specs.Buffer.{buffer_number}
 use Rattle.refusals.specs.Told.{Told, done, refused, told}
 use Rattle.refusals.specs.declared.Refusal.{Refusal}
 use Rattle.card_for_c.specs.declared.Answer.{Answer}
@@ -43,5 +45,5 @@ refused_leaves answer f next was = rw (ne_eqb answer.number 0 f)
 
 pub refused_left : {A : Type 0} (values : ℕ → List ℕ) (r : Refusal) → Held values (told r) → (next was : A) → was ≡ if_done (answer_of (told r)) next was
 refused_left values r h next was =
-    let l = h.refusal r.number r.buffer r.place refl in
-    sym (refused_leaves (answer_of (told r)) (λ e. let z : r.number ≡ 0 = e in absurd (omega arith)) next was)
+    let l = h.refusal (reason_number r.reason) (buffer_number r.buffer) r.place refl in
+    sym (refused_leaves (answer_of (told r)) (λ e. let z : reason_number r.reason ≡ 0 = e in absurd (omega arith)) next was)

@@ -1,12 +1,10 @@
 // Answers of the calls as C takes them.
 ghost use Rattle.std.specs.Prelude.{◌≡◌, [], ◌∷◌};
-ghost use Rattle.refusals.specs.Told.{done, told};
-ghost use Rattle.writers.specs.Writing.{written_means};
+ghost use Rattle.refusals.specs.Told.{done, told, means_count};
 ghost use Rattle.card_for_c.specs.Answers.{answer_of};
 
 use crate::Answer;
 use refusals::Refusal;
-use writers::Written;
 
 // A success of one value.
 pub fn success(value: usize) -> Answer
@@ -23,18 +21,18 @@ pub fn refusal(x: Refusal) -> Answer
     ensures { result ≡ answer_of (told x) }
 {
     Answer {
-        number: x.number,
-        buffer: x.buffer,
+        number: x.reason.number(),
+        buffer: x.buffer.number(),
         place: x.place as u64,
     }
 }
 
-// The answer of a call that writes.
-pub fn of_writing(told: Written) -> Answer
-    ensures { result ≡ answer_of (written_means told) }
+// The answer of a call that counts: the bytes written or used, or the rounds accepted.
+pub fn of_count(told: Result<usize, Refusal>) -> Answer
+    ensures { result ≡ answer_of (means_count told) }
 {
     match told {
-        Written::Wrote(bytes) => success(bytes),
-        Written::Refused(x) => refusal(x),
+        Ok(n) => success(n),
+        Err(x) => refusal(x),
     }
 }

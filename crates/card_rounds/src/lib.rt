@@ -4,28 +4,27 @@
 ghost use Rattle.std.specs.Prelude.{◌≡◌, ◌+◌, ◌*◌, ◌≤◌, ◌<◌, length};
 ghost use Rattle.algebra.specs.Lists.{joined, over, over_at};
 ghost use Rattle.algebra.specs.Residues.{modulus};
-ghost use Rattle.matrices.specs.Matrices.{SystemFits};
 ghost use Rattle.kinds.specs.Kinds.{pair_size};
-ghost use Rattle.scheme.specs.Round.{system_of};
+ghost use Rattle.scheme.specs.Round.{as_system};
 ghost use Rattle.rounds.specs.Layout.{RoundFits, CardFits};
 ghost use Rattle.rounds.specs.Rounds.{commitments_at, answer_at, opening_at};
 
 use algebra::output::copy_at;
 use kinds::PAIR;
+use matrices::Matrix;
 use packed_bits::bit_at;
 use round::card::{commitment_one, commitment_zero, first_answer_into, open_into};
-use rounds::layout::{permutation_of, vector_of};
+use rounds::layout::{pair_at, permutation_of};
 use sha256::DIGEST;
 
 // Writes C0 and C1 of round k at their place.
-fn commit_at(a: &[u8], n: usize, m: usize, pi: &[u8], choices: &[u8], k: usize, out: &mut [u8])
-    requires { SystemFits a.now n m × RoundFits n pi.now pi.now choices.now k × (k * pair_size + pair_size ≤ length out.old) }
-    ensures { out.new ≡ over_at (commitments_at (system_of a.now n m) pi.now choices.now k) (k * pair_size) out.old }
+fn commit_at(a: &Matrix, pi: &[u8], choices: &[u8], k: usize, out: &mut [u8])
+    requires { RoundFits a.now.n pi.now pi.now choices.now k × (k * pair_size + pair_size ≤ length out.old) }
+    ensures { out.new ≡ over_at (commitments_at (as_system a.now) pi.now choices.now k) (k * pair_size) out.old }
 {
-    let r = vector_of(choices, n, k);
-    let sigma = permutation_of(choices, n, k);
-    let zero = commitment_zero(a, n, m, r, sigma);
-    let one = commitment_one(pi, r, sigma);
+    let x = pair_at(choices, a.n, k);
+    let zero = commitment_zero(a, x);
+    let one = commitment_one(pi, x);
     let at = k * PAIR;
     copy_at(&zero, at, out);
     let next = at + DIGEST;
@@ -33,22 +32,12 @@ fn commit_at(a: &[u8], n: usize, m: usize, pi: &[u8], choices: &[u8], k: usize, 
 }
 
 // Writes all commitments.
-pub fn commit_all(
-    a: &[u8],
-    n: usize,
-    m: usize,
-    pi: &[u8],
-    rounds: usize,
-    choices: &[u8],
-    out: &mut [u8],
-)
-    requires { SystemFits a.now n m × CardFits n rounds pi.now pi.now choices.now × (rounds * pair_size ≤ length out.old) }
-    ensures { out.new ≡ over (joined rounds (commitments_at (system_of a.now n m) pi.now choices.now)) out.old }
+pub fn commit_all(a: &Matrix, pi: &[u8], rounds: usize, choices: &[u8], out: &mut [u8])
+    requires { CardFits a.now.n rounds pi.now pi.now choices.now × (rounds * pair_size ≤ length out.old) }
+    ensures { out.new ≡ over (joined rounds (commitments_at (as_system a.now) pi.now choices.now)) out.old }
 {
-    let mut k: usize = 0;
-    while k < rounds {
-        commit_at(a, n, m, pi, choices, k, out);
-        k += 1;
+    for k in 0..rounds {
+        commit_at(a, pi, choices, k, out);
     }
 }
 
@@ -65,11 +54,9 @@ fn answer_at(
     requires { RoundFits n v.now pi.now choices.now k × (k < length challenges.now) × (k * n + n ≤ length out.old) }
     ensures { out.new ≡ over_at (answer_at modulus n v.now pi.now challenges.now choices.now k) (k * n) out.old }
 {
-    let r = vector_of(choices, n, k);
-    let sigma = permutation_of(choices, n, k);
     let c = challenges[k];
     let at = k * n;
-    first_answer_into(v, pi, c, r, sigma, &mut out[at..]);
+    first_answer_into(v, pi, c, pair_at(choices, n, k), &mut out[at..]);
 }
 
 // Writes all first answers.
@@ -85,10 +72,8 @@ pub fn answer_all(
     requires { CardFits n rounds v.now pi.now choices.now × (rounds ≤ length challenges.now) × (rounds * n ≤ length out.old) }
     ensures { out.new ≡ over (joined rounds (answer_at modulus n v.now pi.now challenges.now choices.now)) out.old }
 {
-    let mut k: usize = 0;
-    while k < rounds {
+    for k in 0..rounds {
         answer_at(v, pi, n, challenges, choices, k, out);
-        k += 1;
     }
 }
 
@@ -108,9 +93,7 @@ pub fn open_all(pi: &[u8], n: usize, rounds: usize, bits: &[u8], choices: &[u8],
     requires { CardFits n rounds pi.now pi.now choices.now × (rounds ≤ 8 * length bits.now) × (rounds * n ≤ length out.old) }
     ensures { out.new ≡ over (joined rounds (opening_at n pi.now bits.now choices.now)) out.old }
 {
-    let mut k: usize = 0;
-    while k < rounds {
+    for k in 0..rounds {
         open_at(pi, n, bits, choices, k, out);
-        k += 1;
     }
 }

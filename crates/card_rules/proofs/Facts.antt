@@ -24,7 +24,7 @@ use Rattle.frames.proofs.Facts.{test_holds, rest_done, within-told, rest-length,
 use Rattle.frames.proofs.Orders.{from, rest_part}
 use Rattle.readers.proofs.Passing.{system-fits}
 use Rattle.readers.proofs.Chosen.{values-told, permutation-told, choices-told}
-use Rattle.scheme.specs.Round.{ValidKey}
+use Rattle.scheme.specs.Round.{System as Matrix, ValidKey}
 use Rattle.rounds.proofs.Cuts.{own, vector-length}
 use Rattle.card_rules.specs.declared.session.Session.{Session}
 use Rattle.card_rules.specs.Stages.{COMMITTED, ANSWERED}
@@ -99,8 +99,8 @@ module _ (k : Keys) (n m : ℕ) (p : n ≡ places_of k) (q : m ≡ rows_of k) wh
       rw (rest_part System k.system 6 refl, rest_part Public k.public 5 refl, rest_part Secret k.secret 5 refl, p, q)
       (f.system, own (places_of k) (secret_of k) f.perm, f.perm.len, f.vector)
 
-  pub parts_fault : key_fault modulus (from 6 k.system) n m (from 5 k.public) (from 5 k.secret) ≡ fault_of k
-  parts_fault = rw (rest_part System k.system 6 refl, rest_part Public k.public 5 refl, rest_part Secret k.secret 5 refl, p, q)
+pub parts_fault : (k : Keys) (s : Matrix) (v π : List ℕ) → s ≡ matrix_of k → v ≡ public_of k → π ≡ secret_of k → key_fault modulus s.entries s.n s.m v π ≡ fault_of k
+parts_fault k s v π e p q = rw (e, p, q)
 
 -- ---- the choices, KEY and ROOM
 

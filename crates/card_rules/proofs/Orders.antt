@@ -1,4 +1,6 @@
 -- Laws of the orders of refusals, an answer each, as the code finds them.
+use Rattle.frames.specs.declared.read.Frame.{Frame}
+use Rattle.std.specs.Prelude.{Result, Ok, Err}
 use mathlib.Core.Path.{◌≡◌, refl, ◌∙◌}
 use mathlib.Core.Bool.{Bool, true, false}
 use mathlib.Core.List.{List}
@@ -10,8 +12,6 @@ use Rattle.refusals.specs.Number.{KEY, ROOM, STAGE}
 use Rattle.refusals.specs.Buffer.{NONE, SECRET, OUTPUT}
 use Rattle.refusals.specs.Told.{Told, refused, fine, told, first, demand}
 use Rattle.kinds.specs.declared.Kind.TheVariants.{System, Public, Secret, Bits}
-use Rattle.frames.specs.declared.read.Read.{Read}
-use Rattle.frames.specs.declared.read.Read.TheVariants.{Frame, Refused as NotRead}
 use Rattle.kinds.specs.Kinds.{within, alone, of_places, exactly}
 use Rattle.frames.specs.Reading.{reading, Reads}
 use Rattle.readers.specs.Choosing.{choices_check}
@@ -49,24 +49,24 @@ test_goes_on x y z e q = rw e q
 
 -- ---- buffers 1, 2, 3
 
-module _ (k : Keys) (r : Read) (m : Reads System alone k.system r) where
-  pub bad_system : (x : Refusal) → r ≡ NotRead x → told x ≡ keys_check k
+module _ (k : Keys) (r : Result Frame Refusal) (m : Reads System alone k.system r) where
+  pub bad_system : (x : Refusal) → r ≡ Err x → told x ≡ keys_check k
   unfolding keys_check
   bad_system x e = frame-stops _ m.says e
 
-  module _ (x y z : ℕ) (e : r ≡ Frame x y z) (p : Read) (g : Reads Public (of_places (places_of k)) k.public p) where
-    pub bad-public : (x : Refusal) → p ≡ NotRead x → told x ≡ keys_check k
+  module _ (f : Frame) (e : r ≡ Ok f) (p : Result Frame Refusal) (g : Reads Public (of_places (places_of k)) k.public p) where
+    pub bad-public : (x : Refusal) → p ≡ Err x → told x ≡ keys_check k
     unfolding keys_check
-    bad-public x f = frame_goes_on m.says e (frame-stops _ g.says f)
+    bad-public x h = frame_goes_on m.says e (frame-stops _ g.says h)
 
-    module _ (x' y' z' : ℕ) (f : p ≡ Frame x' y' z') (q : Read) (h : Reads Secret (of_places (places_of k)) k.secret q) where
-      pub bad-secret : (x : Refusal) → q ≡ NotRead x → told x ≡ keys_check k
+    module _ (f' : Frame) (e' : p ≡ Ok f') (q : Result Frame Refusal) (h : Reads Secret (of_places (places_of k)) k.secret q) where
+      pub bad-secret : (x : Refusal) → q ≡ Err x → told x ≡ keys_check k
       unfolding keys_check
-      bad-secret x i = frame_goes_on m.says e (frame_goes_on g.says f (frame-stops _ h.says i))
+      bad-secret x i = frame_goes_on m.says e (frame_goes_on g.says e' (frame-stops _ h.says i))
 
-      pub good-keys : (x y z : ℕ) → q ≡ Frame x y z → fine ≡ keys_check k
+      pub good-keys : (f : Frame) → q ≡ Ok f → fine ≡ keys_check k
       unfolding keys_check
-      good-keys x y z i = frame_goes_on m.says e (frame_goes_on g.says f (frame_goes_on h.says i refl))
+      good-keys f i = frame_goes_on m.says e (frame_goes_on g.says e' (frame_goes_on h.says i refl))
 
 -- ---- KEY; `fault` and `rows` are what the code works out
 

@@ -1,10 +1,11 @@
 -- No second outcome fits what the key check promises. It writes nothing. And the numbers that the calls refuse by.
+use Rattle.refusals.specs.declared.Refusal.{Refusal}
+use Rattle.std.specs.Prelude.{⊤, Result}
 use mathlib.Core.Path.{◌≡◌, sym, ◌∙◌}
 use mathlib.Core.List.{List, []}
 use Prim.Native.Nat.{ℕ}
 use native.Mathlib.Omega.{arith}
 use lib.Dec.{eqb, leb}
-use Rattle.refusals.specs.declared.Checked.{Checked}
 use Rattle.refusals.specs.Number.{SHAPE, PERM, KEY, ROOM, STAGE}
 use Rattle.refusals.specs.Buffer.{NONE, SECRET, OUTPUT}
 use Rattle.refusals.specs.Told.{Told, done, fine, first, demand}
@@ -20,7 +21,7 @@ use Rattle.card_rules.specs.Keys.{Keys, places_of, rows_of, fault_of, keys_check
 use Rattle.card_rules.specs.Asking.{staged, at_rest, record_fits, kept_fit, commitments_size, answers_size, openings_size, rest_check, begin_check, answer_check, open_check}
 use Rattle.card_rules.proofs.Orders.{rest_in_order, open_in_order}
 
-pub one_key_check : (k : Keys) (a b : Checked) → ChecksKey k a → ChecksKey k b → a ≡ b
+pub one_key_check : (k : Keys) (a b : Result ⊤ Refusal) → ChecksKey k a → ChecksKey k b → a ≡ b
 one_key_check k a b p q = means_fixes a b (p.says ∙ sym q.says)
 
 -- ---- the numbers up to STAGE

@@ -1,14 +1,17 @@
--- Laws of the tests of STAGE, an answer each, as the code finds them.
-use mathlib.Core.Path.{◌≡◌, sym, ap, ◌∙◌}
-use mathlib.Core.Bool.{Bool, true, false, false≢true}
+-- Laws of the tests of STAGE.
+use mathlib.Core.Path.{◌≡◌, refl, sym, ap, ◌∙◌}
+use mathlib.Core.Bool.{Bool, true, false, ◌&&◌, false≢true, and_comm}
 use mathlib.Core.List.{List}
-use Prim.Native.Nat.{ℕ, ◌+◌, ◌≤◌, ◌<◌}
+use Prim.Native.Nat.{ℕ, zero, suc, ◌+◌, ◌≤◌, ◌<◌}
 use native.Mathlib.Nat.{not-suc-le-zero}
 use native.Mathlib.Decide.{ℕ_discrete}
 use native.Mathlib.Omega.{arith}
 use borrow.Author.Tests.{eq-eqb, ne_eqb, lt-ltb, le-ltb, eqb-true, ltb-true}
-use lib.Dec.{eqb}
-use lib.ListN.{get_or}
+use lib.Dec.{eqb, ltb}
+use lib.ListN.{length, get_or, take}
+use Rattle.std.specs.List.{list_all}
+use Rattle.std.proofs.lemmas.List.Folds.{list_all_more}
+use Rattle.algebra.specs.Lists.{all_below}
 use Rattle.algebra.specs.Residues.{modulus}
 use Rattle.algebra.proofs.Lists.{&&-left, &&-right, all_below-at, all_below-none, all_below-all}
 use Rattle.kinds.specs.Kinds.{within, alone}
@@ -55,7 +58,18 @@ module _ (s : Session) (n m : ℕ) where
       let w = within-told alone.rounds s.rounds (&&-right (eqb s.m m) _ b) in
       (eqb-true _ _ a, eqb-true _ _ (&&-left (eqb s.m m) _ b), w.0, w.1)
 
--- ---- the challenges kept, as a loop goes through them: those before j are residues
+-- ---- the challenges kept
+
+-- the code's test of the first N is that of each place
+pub kept_tested : (N : ℕ) (challenges : List ℕ) → N ≤ length challenges → list_all (λ x. ltb x modulus) (take N challenges) ≡ kept_fit N challenges
+unfolding kept_fit all_below
+kept_tested zero challenges h = refl
+kept_tested (suc N) challenges h =
+    let e : suc N ≡ N + 1 = omega arith in
+    ap (λ n. list_all (λ x. ltb x modulus) (take n challenges)) e ∙ list_all_more _ challenges N 0 (omega arith)
+    ∙ ap (λ b. b && kept_fits challenges N) (kept_tested N challenges (omega arith)) ∙ and_comm (kept_fit N challenges) (kept_fits challenges N)
+
+-- looked at one after the other: those before j are residues
 
 pub record KeptTo (N : ℕ) (challenges : List ℕ) (j : ℕ) : Type 0 where
   pub most : j ≤ N

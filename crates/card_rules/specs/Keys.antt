@@ -1,6 +1,6 @@
 -- The frames of system, public key and secret key: what is asked of them, and the key check (document 01, "The numbers" and "Refusal numbers").
-use Rattle.std.specs.Prelude.{◌≡◌, List, ℕ, eqb}
-use Rattle.refusals.specs.declared.Checked.{Checked}
+use Rattle.refusals.specs.declared.Refusal.{Refusal}
+use Rattle.std.specs.Prelude.{◌≡◌, List, ℕ, eqb, ⊤, Result}
 use Rattle.refusals.specs.Number.{KEY}
 use Rattle.refusals.specs.Buffer.{SECRET}
 use Rattle.refusals.specs.Told.{Told, fine, means, first, demand}
@@ -55,5 +55,5 @@ unfoldable pub key_check : Keys → Told
 key_check k = first (keys_check k) (valid_check k)
 
 -- what the key check promises; it writes nothing
-pub record ChecksKey (k : Keys) (answer : Checked) : Type 0 where
+pub record ChecksKey (k : Keys) (answer : Result ⊤ Refusal) : Type 0 where
   pub says : means answer ≡ key_check k

@@ -3,3 +3,4 @@ pub mod Stages
 pub mod Keys
 pub mod Lent
 pub mod Asking
+pub mod Parts

@@ -3,8 +3,8 @@ ghost use Rattle.std.specs.Prelude.{◌≡◌, ◌≤◌};
 ghost use Rattle.kinds.specs.Kinds.{most_rounds};
 ghost use Rattle.card_rules.specs.Asking.{at_rest, record_fits, kept_fit};
 
-use algebra::{MODULUS, wide};
-use kinds::{MOST_ROUNDS, alone, within};
+use algebra::MODULUS;
+use kinds::{Expected, MOST_ROUNDS};
 
 // What the host keeps of a sign-on between the card's calls. Any bytes are a record.
 #[repr(C)]
@@ -26,26 +26,23 @@ pub const ANSWERED: u8 = 2;
 pub const CLOSED: u8 = 3;
 
 // Whether no sign-on is under way.
+#[tactic(auto, unfolding(crate::specs::Asking::at_rest))]
 pub fn at_rest(stage: u8) -> bool
     ensures { result ≡ at_rest stage }
 {
-    if stage == IDLE {
-        return true;
-    }
-    stage == CLOSED
+    stage == IDLE || stage == CLOSED
 }
 
 // Whether the record is of a system with this n and m, and its N is 1 to 64.
+#[tactic(auto, unfolding(crate::specs::Asking::record_fits))]
 pub fn record_fits(session: Session, n: usize, m: usize) -> bool
     ensures { result ≡ record_fits session n m }
 {
-    if wide(session.n) != n {
-        return false;
-    }
-    if wide(session.m) != m {
-        return false;
-    }
-    within(alone().rounds, wide(session.rounds))
+    usize::from(session.n) == n
+        && usize::from(session.m) == m
+        && Expected::alone()
+            .rounds
+            .contains(usize::from(session.rounds))
 }
 
 // Whether the first N challenges kept are residues.
@@ -53,14 +50,7 @@ pub fn kept_fit(session: Session) -> bool
     requires { session.rounds ≤ most_rounds }
     ensures { result ≡ kept_fit session.rounds session.challenges }
 {
-    let kept = session.challenges;
-    let rounds = wide(session.rounds);
-    let mut j: usize = 0;
-    while j < rounds {
-        if MODULUS <= kept[j] as u32 {
-            return false;
-        }
-        j += 1;
-    }
-    true
+    session.challenges[..usize::from(session.rounds)]
+        .iter()
+        .all(|x| u32::from(*x) < MODULUS)
 }

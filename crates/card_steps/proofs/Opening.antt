@@ -8,12 +8,12 @@ use Rattle.refusals.specs.Number.{SELF}
 use Rattle.refusals.specs.Buffer.{CHOICES}
 use Rattle.refusals.specs.Told.{done, refused, fine}
 use Rattle.refusals.proofs.Chain.{first_done}
-use Rattle.kinds.specs.declared.Kind.TheVariants.{System, Public, Secret, Bits}
+use Rattle.kinds.specs.declared.Kind.TheVariants.{Bits}
 use Rattle.frames.specs.Reading.{rest_of}
 use Rattle.frames.proofs.Orders.{from, rest_part}
-use Rattle.scheme.specs.Round.{system_of}
+use Rattle.scheme.specs.Round.{System as Matrix}
 use Rattle.card_rules.specs.declared.session.Session.{Session}
-use Rattle.card_rules.specs.Keys.{Keys, places_of, rows_of, public_of, secret_of}
+use Rattle.card_rules.specs.Keys.{Keys, public_of, secret_of}
 use Rattle.card_rules.specs.Lent.{matrix_of}
 use Rattle.card_rules.specs.Asking.{open_check}
 use Rattle.card_rules.proofs.Facts.{OpenFits, open_told_lem}
@@ -36,10 +36,9 @@ module _ (s : Session) (k : Keys) (message choices : List ℕ) where
 
   -- ---- the card's own check, of the values lent as the code cuts them
 
-  pub faulty_formed : (n m N : ℕ) → n ≡ places_of k → m ≡ rows_of k → N ≡ s.rounds
-      → own_failing (system_of (from 6 k.system) n m) (from 5 k.public) (from 5 k.secret) N choices s.challenges (from 5 message) ≡ faulty_round s k message choices
-  faulty_formed n m N p q r =
-      rw (rest_part System k.system 6 refl, rest_part Public k.public 5 refl, rest_part Secret k.secret 5 refl, rest_part Bits message 5 refl, p, q, r)
+  pub faulty_formed : (a : Matrix) (v π : List ℕ) (N : ℕ) → a ≡ matrix_of k → v ≡ public_of k → π ≡ secret_of k → N ≡ s.rounds
+      → own_failing a v π N choices s.challenges (from 5 message) ≡ faulty_round s k message choices
+  faulty_formed a v π N e p q r = rw (rest_part Bits message 5 refl, e, p, q, r)
 
   module _ (failing N : ℕ) (e : failing ≡ faulty_round s k message choices) (q : N ≡ s.rounds) where
     pub own-fails : (failing ≡ N → ⊥) → refused SELF CHOICES failing ≡ own_check s k message choices

@@ -1,4 +1,5 @@
 -- For each call: no second outcome fits what it promises, and a refused call changes nothing.
+use Rattle.std.specs.Prelude.{Result, Err}
 use mathlib.Core.Path.{◌≡◌, sym, ap, ap₂, ◌∙◌}
 use mathlib.Core.List.{List, [], ◌∷◌}
 use Prim.Native.Nat.{ℕ}
@@ -7,12 +8,9 @@ use lib.Dec.{eqb}
 use Rattle.refusals.specs.declared.Refusal.{Refusal}
 use Rattle.refusals.specs.Number.{STAGE, SELF}
 use Rattle.refusals.specs.Buffer.{CHOICES}
-use Rattle.refusals.specs.Told.{Told, done, first}
-use Rattle.refusals.proofs.Chain.{ends_done, UpTo, done_most, demand-most, first-most, most-more}
-use Rattle.writers.specs.declared.Written.{Written}
-use Rattle.writers.specs.declared.Written.TheVariants.{Refused}
-use Rattle.writers.specs.Writing.{written_means, out_after}
-use Rattle.writers.proofs.Outcomes.{written_fixes}
+use Rattle.refusals.specs.Told.{Told, done, first, means_count}
+use Rattle.refusals.proofs.Chain.{count_fixes, ends_done, UpTo, done_most, demand-most, first-most, most-more}
+use Rattle.writers.specs.Writing.{out_after}
 use Rattle.card_rules.specs.declared.session.Session.{Session}
 use Rattle.card_rules.specs.Keys.{Keys, places_of}
 use Rattle.card_rules.specs.Asking.{commitments_size, answers_size, openings_size, begin_check, answer_check, open_check}
@@ -20,33 +18,33 @@ use Rattle.card_rules.proofs.Outcomes.{begin-most, answer-most, open_most}
 use Rattle.card_steps.specs.declared.Step.{Step}
 use Rattle.card_steps.specs.Steps.{unless_refused, begin_told, BeginStep, answer_told, AnswerStep, faulty_round, own_check, open_refusal, open_told, zeroed, OpenStep, GiveUpStep}
 
-step : Written → Session → Step
+step : Result ℕ Refusal → Session → Step
 step told next = record { told = told; next = next }
 
 -- two steps that tell the same leave the same record and the same bytes
-module _ (a b : Step) (e : written_means a.told ≡ written_means b.told) where
+module _ (a b : Step) (e : means_count a.told ≡ means_count b.told) where
   same-told : a.told ≡ b.told
-  same-told = written_fixes a.told b.told e
+  same-told = count_fixes a.told b.told e
 
   same_step : (s next : Session) → a.next ≡ unless_refused a.told next s → b.next ≡ unless_refused b.told next s → a ≡ b
   unfolding step
-  same_step s next p q = ap₂ step same-told (p ∙ ap (λ (w : Written). unless_refused w next s) same-told ∙ sym q)
+  same_step s next p q = ap₂ step same-told (p ∙ ap (λ (w : Result ℕ Refusal). unless_refused w next s) same-told ∙ sym q)
 
   same-output : (l out x y : List ℕ) → x ≡ out_after a.told l out → y ≡ out_after b.told l out → x ≡ y
-  same-output l out x y p q = p ∙ ap (λ (w : Written). out_after w l out) same-told ∙ sym q
+  same-output l out x y p q = p ∙ ap (λ (w : Result ℕ Refusal). out_after w l out) same-told ∙ sym q
 
 -- a refusal leaves the record and the output
-module _ (t : Written) (r : Refusal) (e : t ≡ Refused r) where
+module _ (t : Result ℕ Refusal) (r : Refusal) (e : t ≡ Err r) where
   record-left : (next s : Session) → unless_refused t next s ≡ s
-  record-left next s = ap (λ (w : Written). unless_refused w next s) e
+  record-left next s = ap (λ (w : Result ℕ Refusal). unless_refused w next s) e
 
   output-left : (l out : List ℕ) → out_after t l out ≡ out
-  output-left l out = ap (λ (w : Written). out_after w l out) e
+  output-left l out = ap (λ (w : Result ℕ Refusal). out_after w l out) e
 
 -- ---- begin
 
 module _ (s : Session) (N : ℕ) (k : Keys) (choices out : List ℕ) where
-  pub refused_begin : (r : Refusal) (a : Step) (x : List ℕ) → BeginStep s N k choices out a x → a.told ≡ Refused r → (a.next ≡ s) × (x ≡ out)
+  pub refused_begin : (r : Refusal) (a : Step) (x : List ℕ) → BeginStep s N k choices out a x → a.told ≡ Err r → (a.next ≡ s) × (x ≡ out)
   refused_begin r a x p e = (p.moves ∙ record-left a.told r e _ s, p.writes ∙ output-left a.told r e _ out)
 
   pub one_begin : (a b : Step) (x y : List ℕ) → BeginStep s N k choices out a x → BeginStep s N k choices out b y → (a ≡ b) × (x ≡ y)
@@ -57,7 +55,7 @@ module _ (s : Session) (N : ℕ) (k : Keys) (choices out : List ℕ) where
 -- ---- answer
 
 module _ (s : Session) (k : Keys) (message choices out : List ℕ) where
-  pub refused_answer : (r : Refusal) (a : Step) (x : List ℕ) → AnswerStep s k message choices out a x → a.told ≡ Refused r → (a.next ≡ s) × (x ≡ out)
+  pub refused_answer : (r : Refusal) (a : Step) (x : List ℕ) → AnswerStep s k message choices out a x → a.told ≡ Err r → (a.next ≡ s) × (x ≡ out)
   refused_answer r a x p e = (p.moves ∙ record-left a.told r e _ s, p.writes ∙ output-left a.told r e _ out)
 
   pub one_answer : (a b : Step) (x y : List ℕ) → AnswerStep s k message choices out a x → AnswerStep s k message choices out b y → (a ≡ b) × (x ≡ y)
@@ -68,15 +66,15 @@ module _ (s : Session) (k : Keys) (message choices out : List ℕ) where
 -- ---- open
 
 module _ (s : Session) (k : Keys) (message choices out : List ℕ) where
-  pub refused_open : (r : Refusal) (a : Step) (u x : List ℕ) → OpenStep s k message choices out a u x → a.told ≡ Refused r → (a.next ≡ s) × (u ≡ choices) × (x ≡ out)
+  pub refused_open : (r : Refusal) (a : Step) (u x : List ℕ) → OpenStep s k message choices out a u x → a.told ≡ Err r → (a.next ≡ s) × (u ≡ choices) × (x ≡ out)
   refused_open r a u x p e =
-      (p.moves ∙ record-left a.told r e _ s, p.clears ∙ ap (λ (w : Written). unless_refused w (zeroed choices) choices) e, p.writes ∙ output-left a.told r e _ out)
+      (p.moves ∙ record-left a.told r e _ s, p.clears ∙ ap (λ (w : Result ℕ Refusal). unless_refused w (zeroed choices) choices) e, p.writes ∙ output-left a.told r e _ out)
 
   pub one_open : (a b : Step) (u v x y : List ℕ) → OpenStep s k message choices out a u x → OpenStep s k message choices out b v y → (a ≡ b) × (u ≡ v) × (x ≡ y)
   one_open a b u v x y p q =
       let e = p.says ∙ sym q.says in (
         same_step a b e s _ p.moves q.moves,
-        p.clears ∙ ap (λ (w : Written). unless_refused w (zeroed choices) choices) (same-told a b e) ∙ sym q.clears,
+        p.clears ∙ ap (λ (w : Result ℕ Refusal). unless_refused w (zeroed choices) choices) (same-told a b e) ∙ sym q.clears,
         same-output a b e _ out x y p.writes q.writes,
       )
 

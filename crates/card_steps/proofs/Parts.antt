@@ -10,7 +10,7 @@ use Rattle.algebra.specs.Residues.{modulus}
 use Rattle.matrices.specs.Matrices.{SystemFits}
 use Rattle.algebra.proofs.Lists.{part_over, stretch-fits}
 use Rattle.kinds.specs.declared.Kind.{Kind}
-use Rattle.kinds.specs.declared.Kind.TheVariants.{System, Public, Secret, Challenges, Bits}
+use Rattle.kinds.specs.declared.Kind.TheVariants.{System, Challenges, Bits}
 use Rattle.kinds.specs.Kinds.{exactly, table}
 use Rattle.frames.specs.Reading.{rest_of}
 use Rattle.readers.specs.Choosing.{choice_size}
@@ -18,11 +18,11 @@ use Rattle.writers.specs.Writing.{heading, frame}
 use Rattle.frames.proofs.Facts.{rest-length, FrameFits, first-asked}
 use Rattle.frames.proofs.Orders.{from, rest_part}
 use Rattle.writers.proofs.Writing.{framed}
-use Rattle.scheme.specs.Round.{system_of}
+use Rattle.scheme.specs.Round.{System as Matrix}
 use Rattle.rounds.specs.Layout.{CardFits}
 use Rattle.rounds.specs.Rounds.{commitments_at, answer_at, opening_at}
 use Rattle.card_rules.specs.Keys.{Keys, places_of, rows_of, public_of, secret_of}
-use Rattle.card_rules.specs.Lent.{LentFits}
+use Rattle.card_rules.specs.Lent.{matrix_of, LentFits}
 use Rattle.card_steps.specs.Steps.{commitments_of, answers_of, openings_of}
 
 -- a frame: its heading, and the rest over the part behind it
@@ -54,29 +54,30 @@ card-fits k N choices v h e =
 
 -- ---- the values lent, as the code cuts them
 
-module _ (k : Keys) (N : ℕ) (choices : List ℕ) (h : LentFits k N choices) (n m : ℕ) (p : n ≡ places_of k) (q : m ≡ rows_of k) where
-  pub system_part : SystemFits (from 6 k.system) n m
-  system_part = rw (rest_part System k.system 6 refl, p, q) h.keys.system
+pub system_part : (k : Keys) (N : ℕ) (choices : List ℕ) → LentFits k N choices → (n m : ℕ) → n ≡ places_of k → m ≡ rows_of k → SystemFits (from 6 k.system) n m
+system_part k N choices h n m p q = rw (rest_part System k.system 6 refl, p, q) h.keys.system
 
-  -- with V, and with no vector
-  pub card-parts : CardFits n N (from 5 k.public) (from 5 k.secret) choices
-  card-parts = rw (rest_part Public k.public 5 refl, rest_part Secret k.secret 5 refl, p) (card-fits k N choices (public_of k) h h.keys.vector)
+-- with V, and with no vector
+module _ (k : Keys) (N : ℕ) (choices : List ℕ) (h : LentFits k N choices) (n : ℕ) (v π : List ℕ) (p : n ≡ places_of k) (a : v ≡ public_of k) (b : π ≡ secret_of k) where
+  pub card-parts : CardFits n N v π choices
+  card-parts = rw (a, b, p) (card-fits k N choices (public_of k) h h.keys.vector)
 
-  pub key-parts : CardFits n N (from 5 k.secret) (from 5 k.secret) choices
-  key-parts = rw (rest_part Secret k.secret 5 refl, p) (card-fits k N choices (secret_of k) h h.keys.perm.len)
-
-  pub commitments-formed : joined N (commitments_at (system_of (from 6 k.system) n m) (from 5 k.secret) choices) ≡ commitments_of N k choices
-  unfolding commitments_of
-  commitments-formed = rw (rest_part System k.system 6 refl, rest_part Secret k.secret 5 refl, p, q)
-
-  pub answers-formed : (message : List ℕ)
-      → joined N (answer_at modulus n (from 5 k.public) (from 5 k.secret) (from 5 message) choices) ≡ answers_of N k message choices
+  pub answers-formed : (message : List ℕ) → joined N (answer_at modulus n v π (from 5 message) choices) ≡ answers_of N k message choices
   unfolding answers_of
-  answers-formed message = rw (rest_part Challenges message 5 refl, rest_part Public k.public 5 refl, rest_part Secret k.secret 5 refl, p)
+  answers-formed message = rw (rest_part Challenges message 5 refl, a, b, p)
 
-  pub openings-formed : (message : List ℕ) → joined N (opening_at n (from 5 k.secret) (from 5 message) choices) ≡ openings_of N k message choices
+module _ (k : Keys) (N : ℕ) (choices : List ℕ) (h : LentFits k N choices) (n : ℕ) (π : List ℕ) (p : n ≡ places_of k) (b : π ≡ secret_of k) where
+  pub key-parts : CardFits n N π π choices
+  key-parts = rw (b, p) (card-fits k N choices (secret_of k) h h.keys.perm.len)
+
+  pub openings-formed : (message : List ℕ) → joined N (opening_at n π (from 5 message) choices) ≡ openings_of N k message choices
   unfolding openings_of
-  openings-formed message = rw (rest_part Bits message 5 refl, rest_part Secret k.secret 5 refl, p)
+  openings-formed message = rw (rest_part Bits message 5 refl, b, p)
+
+pub commitments-formed : (k : Keys) (N : ℕ) (choices : List ℕ) (s : Matrix) (π : List ℕ) → s ≡ matrix_of k → π ≡ secret_of k
+    → joined N (commitments_at s π choices) ≡ commitments_of N k choices
+unfolding commitments_of
+commitments-formed k N choices s π e b = rw (e, b)
 
 -- ---- the incoming messages
 

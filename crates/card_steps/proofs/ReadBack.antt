@@ -147,4 +147,4 @@ pub honest-messages : (k : Keys) (N : ℕ) (choices challenges bits : List ℕ)
     → messages (commitments_of N k choices) (rest_of Challenges challenges) (answers_of N k challenges choices) (rest_of Bits bits) (openings_of N k bits choices)
     ≡ honest_run (matrix_of k) (public_of k) (secret_of k) N choices (rest_of Challenges challenges) (rest_of Bits bits)
 unfolding commitments_of answers_of openings_of
-honest-messages k N choices challenges bits = refl
+honest-messages k N choices _ _ = refl

@@ -1,4 +1,6 @@
 -- A card at rest answers nothing and opens nothing. After open, and after giving up, it is at rest, and only begin takes it on.
+use Rattle.refusals.specs.declared.Refusal.{Refusal}
+use Rattle.std.specs.Prelude.{Result, Ok, Err}
 use mathlib.Core.Path.{◌≡◌, refl, ap, ◌∙◌}
 use mathlib.Core.Bool.{true}
 use mathlib.Core.List.{List, [], ◌∷◌}
@@ -7,12 +9,9 @@ use native.Mathlib.Omega.{arith}
 use lib.ListN.{length, length-replicate}
 use Rattle.refusals.specs.Number.{PERM, STAGE}
 use Rattle.refusals.specs.Buffer.{NONE, CHOICES}
-use Rattle.refusals.specs.Told.{done, refused, fine}
+use Rattle.refusals.specs.Told.{done, refused, fine, means_count}
 use Rattle.refusals.proofs.Chain.{first_done}
-use Rattle.writers.specs.declared.Written.{Written}
-use Rattle.writers.specs.declared.Written.TheVariants.{Wrote, Refused}
 use Rattle.kinds.specs.Kinds.{within, alone}
-use Rattle.writers.specs.Writing.{written_means}
 use Rattle.readers.specs.Choosing.{choice_size}
 use Rattle.frames.proofs.Facts.{within-told}
 use Rattle.readers.proofs.Chosen.{Zeros, zeros_refused, zeros_not_chosen}
@@ -26,34 +25,34 @@ use Rattle.card_steps.specs.declared.Step.{Step}
 use Rattle.card_steps.specs.Steps.{unless_refused, zeroed, begin_told, answer_told, AnswerStep, open_refusal, open_told, closed, OpenStep, fresh, GiveUpStep}
 
 -- a refusal that a step tells leaves the record
-kept : (t : Written) (next s : Session) {x y z : ℕ} → written_means t ≡ refused x y z → unless_refused t next s ≡ s
-kept (Wrote bytes) next s e = let z : ◌≡◌ {A = ℕ} 0 1 = cc in absurd (omega arith)
-kept (Refused r) next s e = refl
+kept : (t : Result ℕ Refusal) (next s : Session) {x y z : ℕ} → means_count t ≡ refused x y z → unless_refused t next s ≡ s
+kept (Ok bytes) next s e = let z : ◌≡◌ {A = ℕ} 0 1 = cc in absurd (omega arith)
+kept (Err r) next s e = refl
 
 module _ (s : Session) (rest : at_rest s.stage ≡ true) (k : Keys) (message choices out : List ℕ) (step : Step) where
   -- answer and open are STAGE, whatever is lent, and leave the card at rest
-  pub no_answer : (after : List ℕ) → AnswerStep s k message choices out step after → (written_means step.told ≡ refused STAGE NONE 0) × (step.next ≡ s)
+  pub no_answer : (after : List ℕ) → AnswerStep s k message choices out step after → (means_count step.told ≡ refused STAGE NONE 0) × (step.next ≡ s)
   unfolding answer_told
   no_answer after p =
       let f = (rests_apart s.stage rest).0 in
-      let e : written_means step.told ≡ refused STAGE NONE 0 =
+      let e : means_count step.told ≡ refused STAGE NONE 0 =
       p.says ∙ rw (no_answer-at s k message choices (length out) f) in
       (e, p.moves ∙ kept step.told _ s e)
 
-  pub no_opening : (left after : List ℕ) → OpenStep s k message choices out step left after → (written_means step.told ≡ refused STAGE NONE 0) × (step.next ≡ s)
+  pub no_opening : (left after : List ℕ) → OpenStep s k message choices out step left after → (means_count step.told ≡ refused STAGE NONE 0) × (step.next ≡ s)
   unfolding open_told open_refusal
   no_opening left after p =
       let f = (rests_apart s.stage rest).1 in
-      let e : written_means step.told ≡ refused STAGE NONE 0 =
+      let e : means_count step.told ≡ refused STAGE NONE 0 =
       p.says ∙ rw (no_open_at s k message choices (length out) f) in
       (e, p.moves ∙ kept step.told _ s e)
 
 -- after an opening the card is at rest
 pub opened_rests : (s : Session) (k : Keys) (message choices out : List ℕ) (step : Step) (left after : List ℕ) (bytes : ℕ)
-    → OpenStep s k message choices out step left after → step.told ≡ Wrote bytes → at_rest step.next.stage ≡ true
+    → OpenStep s k message choices out step left after → step.told ≡ Ok bytes → at_rest step.next.stage ≡ true
 unfolding closed at_rest
 opened_rests s k message choices out step left after bytes p e =
-    ap (λ (n : Session). at_rest n.stage) (p.moves ∙ ap (λ (t : Written). unless_refused t (closed s) s) e)
+    ap (λ (n : Session). at_rest n.stage) (p.moves ∙ ap (λ (t : Result ℕ Refusal). unless_refused t (closed s) s) e)
 
 pub given_up_rests : (s : Session) (choices : List ℕ) (next : Session) (left : List ℕ) → GiveUpStep s choices next left → at_rest next.stage ≡ true
 unfolding fresh at_rest

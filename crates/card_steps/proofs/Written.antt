@@ -1,16 +1,16 @@
 -- What a step that is not refused has found, written and kept.
+use Rattle.refusals.specs.declared.Refusal.{Refusal}
+use Rattle.std.specs.Prelude.{Result, Ok}
 use mathlib.Core.Path.{◌≡◌, sym, ap, ◌∙◌}
 use mathlib.Core.List.{List, [], ◌∷◌}
 use Prim.Native.Nat.{ℕ}
 use lib.ListN.{length}
-use Rattle.refusals.specs.Told.{done}
+use Rattle.refusals.specs.Told.{done, means_count}
 use Rattle.refusals.proofs.Chain.{first_done}
 use Rattle.algebra.specs.Lists.{over}
 use Rattle.kinds.specs.declared.Kind.TheVariants.{Commitments, Challenges, Answers, Openings}
-use Rattle.writers.specs.declared.Written.{Written}
-use Rattle.writers.specs.declared.Written.TheVariants.{Wrote}
 use Rattle.frames.specs.Reading.{rest_of}
-use Rattle.writers.specs.Writing.{frame, written_means, out_after}
+use Rattle.writers.specs.Writing.{frame, out_after}
 use Rattle.card_rules.specs.declared.session.Session.{Session}
 use Rattle.card_rules.specs.Keys.{Keys, places_of}
 use Rattle.card_rules.specs.Asking.{commitments_size, answers_size, openings_size, begin_check, answer_check}
@@ -31,17 +31,17 @@ pub record BeginWrote (s : Session) (N : ℕ) (k : Keys) (choices out : List ℕ
   pub reads : ReadBack Commitments N 0 (commitments_of N k choices)
 
 module _ (s : Session) (N : ℕ) (k : Keys) (choices out : List ℕ) (step : Step) (after : List ℕ) (bytes : ℕ) where
-  pub begin_wrote : BeginStep s N k choices out step after → step.told ≡ Wrote bytes → BeginWrote s N k choices out step.next after bytes
+  pub begin_wrote : BeginStep s N k choices out step after → step.told ≡ Ok bytes → BeginWrote s N k choices out step.next after bytes
   unfolding begin_told begun
   begin_wrote p e =
-      let t = first_done (begin_check s N k choices (length out)) (done (commitments_size N ∷ [])) (bytes ∷ []) (sym p.says ∙ ap written_means e) in
+      let t = first_done (begin_check s N k choices (length out)) (done (commitments_size N ∷ [])) (bytes ∷ []) (sym p.says ∙ ap means_count e) in
       let f = begin-told s N k choices (length out) t.0.0 t.0.1 in
       record {
         found = f;
         size = cc;
-        kept = p.moves ∙ ap (λ (w : Written). unless_refused w (begun N k) s) e;
-        rounds = ap (λ (z : Session). z.rounds) (p.moves ∙ ap (λ (w : Written). unless_refused w (begun N k) s) e);
-        output = p.writes ∙ ap (λ (w : Written). out_after w (frame Commitments N 0 (commitments_of N k choices)) out) e;
+        kept = p.moves ∙ ap (λ (w : Result ℕ Refusal). unless_refused w (begun N k) s) e;
+        rounds = ap (λ (z : Session). z.rounds) (p.moves ∙ ap (λ (w : Result ℕ Refusal). unless_refused w (begun N k) s) e);
+        output = p.writes ∙ ap (λ (w : Result ℕ Refusal). out_after w (frame Commitments N 0 (commitments_of N k choices)) out) e;
         reads = commitments-read k N choices f.lent;
       }
 
@@ -65,20 +65,20 @@ pub record OpenWrote (s : Session) (k : Keys) (message choices out : List ℕ) (
   pub output : after ≡ over (frame Openings (places_of k) s.rounds (openings_of s.rounds k message choices)) out
   pub reads : ReadBack Openings (places_of k) s.rounds (openings_of s.rounds k message choices)
 
-module _ (s : Session) (k : Keys) (message choices out : List ℕ) (step : Step) (after : List ℕ) (bytes : ℕ) (e : step.told ≡ Wrote bytes) where
+module _ (s : Session) (k : Keys) (message choices out : List ℕ) (step : Step) (after : List ℕ) (bytes : ℕ) (e : step.told ≡ Ok bytes) where
   pub answer_wrote : AnswerStep s k message choices out step after → AnswerWrote s k message choices out step.next after bytes
   unfolding answer_told answered
   answer_wrote p =
       let n = places_of k in
       let N = s.rounds in
-      let t = first_done (answer_check s k message choices (length out)) (done (answers_size n N ∷ [])) (bytes ∷ []) (sym p.says ∙ ap written_means e) in
+      let t = first_done (answer_check s k message choices (length out)) (done (answers_size n N ∷ [])) (bytes ∷ []) (sym p.says ∙ ap means_count e) in
       let f = answer-told s k message choices (length out) t.0.0 t.0.1 in
       record {
         found = f;
         size = cc;
-        kept = p.moves ∙ ap (λ (w : Written). unless_refused w (answered s (rest_of Challenges message)) s) e;
-        rounds = ap (λ (z : Session). z.rounds) (p.moves ∙ ap (λ (w : Written). unless_refused w (answered s (rest_of Challenges message)) s) e);
-        output = p.writes ∙ ap (λ (w : Written). out_after w (frame Answers n N (answers_of N k message choices)) out) e;
+        kept = p.moves ∙ ap (λ (w : Result ℕ Refusal). unless_refused w (answered s (rest_of Challenges message)) s) e;
+        rounds = ap (λ (z : Session). z.rounds) (p.moves ∙ ap (λ (w : Result ℕ Refusal). unless_refused w (answered s (rest_of Challenges message)) s) e);
+        output = p.writes ∙ ap (λ (w : Result ℕ Refusal). out_after w (frame Answers n N (answers_of N k message choices)) out) e;
         reads = answers-read k N choices f.lent message;
       }
 
@@ -87,13 +87,13 @@ module _ (s : Session) (k : Keys) (message choices out : List ℕ) (step : Step)
   open_wrote left p =
       let n = places_of k in
       let N = s.rounds in
-      let t = first_done (open_refusal s k message choices (length out)) (done (openings_size n N ∷ [])) (bytes ∷ []) (sym p.says ∙ ap written_means e) in
+      let t = first_done (open_refusal s k message choices (length out)) (done (openings_size n N ∷ [])) (bytes ∷ []) (sym p.says ∙ ap means_count e) in
       let f = refusal-told s k message choices (length out) t.0.0 t.0.1 in
       record {
         found = f;
         size = cc;
-        kept = p.moves ∙ ap (λ (w : Written). unless_refused w (closed s) s) e;
-        cleared = p.clears ∙ ap (λ (w : Written). unless_refused w (zeroed choices) choices) e;
-        output = p.writes ∙ ap (λ (w : Written). out_after w (frame Openings n N (openings_of N k message choices)) out) e;
+        kept = p.moves ∙ ap (λ (w : Result ℕ Refusal). unless_refused w (closed s) s) e;
+        cleared = p.clears ∙ ap (λ (w : Result ℕ Refusal). unless_refused w (zeroed choices) choices) e;
+        output = p.writes ∙ ap (λ (w : Result ℕ Refusal). out_after w (frame Openings n N (openings_of N k message choices)) out) e;
         reads = openings-read k N choices f.lent message;
       }

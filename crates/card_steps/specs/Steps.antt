@@ -1,16 +1,15 @@
 -- What begin, answer, open and give up tell, keep and write (document 01, "The card's three calls").
-use Rattle.std.specs.Prelude.{◌≡◌, List, [], ◌∷◌, ℕ, ◌*◌, ◌≤◌, ◌<◌, eqb, length, get_or, replicate}
+use Rattle.refusals.specs.declared.Refusal.{Refusal}
+use Rattle.std.specs.Prelude.{◌≡◌, List, [], ◌∷◌, ℕ, ◌*◌, ◌≤◌, ◌<◌, eqb, length, get_or, replicate, Result, Ok, Err}
 use Rattle.refusals.specs.Number.{SELF}
 use Rattle.refusals.specs.Buffer.{CHOICES}
-use Rattle.refusals.specs.Told.{Told, done, first, demand}
+use Rattle.refusals.specs.Told.{Told, done, first, demand, means_count}
 use Rattle.algebra.specs.Lists.{joined, over}
 use Rattle.algebra.specs.Residues.{modulus}
 use Rattle.kinds.specs.Kinds.{most_rounds}
 use Rattle.kinds.specs.declared.Kind.TheVariants.{Commitments, Challenges, Answers, Bits, Openings}
-use Rattle.writers.specs.declared.Written.{Written}
-use Rattle.writers.specs.declared.Written.TheVariants.{Wrote, Refused}
 use Rattle.frames.specs.Reading.{rest_of}
-use Rattle.writers.specs.Writing.{frame, written_means, out_after}
+use Rattle.writers.specs.Writing.{frame, out_after}
 use Rattle.rounds.specs.Rounds.{commitments_at, answer_at, opening_at}
 use Rattle.card_rules.specs.declared.session.Session.{Session}
 use Rattle.card_rules.specs.Stages.{IDLE, COMMITTED, ANSWERED, CLOSED}
@@ -21,9 +20,9 @@ use Rattle.card_steps.specs.declared.Step.{Step}
 use Rattle.own_check.specs.Own.{own_failing}
 
 -- what was, where a call is refused; what comes, where it is not
-abbrev pub unless_refused : {A : Type 0} → Written → A → A → A
-unless_refused (Wrote bytes) next was = next
-unless_refused (Refused r) next was = was
+abbrev pub unless_refused : {A : Type 0} → Result ℕ Refusal → A → A → A
+unless_refused (Ok bytes) next was = next
+unless_refused (Err r) next was = was
 
 -- ---- begin
 
@@ -38,7 +37,7 @@ commitments_of N k choices = joined N (commitments_at (matrix_of k) (secret_of k
 
 -- what begin promises: its answer, the record, and every byte of the output
 pub record BeginStep (s : Session) (N : ℕ) (k : Keys) (choices out : List ℕ) (step : Step) (after : List ℕ) : Type 0 where
-  pub says : written_means step.told ≡ begin_told s N k choices (length out)
+  pub says : means_count step.told ≡ begin_told s N k choices (length out)
   pub moves : step.next ≡ unless_refused step.told (begun N k) s
   pub writes : after ≡ out_after step.told (frame Commitments N 0 (commitments_of N k choices)) out
 
@@ -55,7 +54,7 @@ unfoldable pub answers_of : ℕ → Keys → List ℕ → List ℕ → List ℕ
 answers_of N k message choices = joined N (answer_at modulus (places_of k) (public_of k) (secret_of k) (rest_of Challenges message) choices)
 
 pub record AnswerStep (s : Session) (k : Keys) (message choices out : List ℕ) (step : Step) (after : List ℕ) : Type 0 where
-  pub says : written_means step.told ≡ answer_told s k message choices (length out)
+  pub says : means_count step.told ≡ answer_told s k message choices (length out)
   pub moves : step.next ≡ unless_refused step.told (answered s (rest_of Challenges message)) s
   pub writes : after ≡ out_after step.told (frame Answers (places_of k) s.rounds (answers_of s.rounds k message choices)) out
 
@@ -95,7 +94,7 @@ abbrev pub zeroed : List ℕ → List ℕ
 zeroed l = replicate (length l) 0
 
 pub record OpenStep (s : Session) (k : Keys) (message choices out : List ℕ) (step : Step) (left after : List ℕ) : Type 0 where
-  pub says : written_means step.told ≡ open_told s k message choices (length out)
+  pub says : means_count step.told ≡ open_told s k message choices (length out)
   pub moves : step.next ≡ unless_refused step.told (closed s) s
   pub clears : left ≡ unless_refused step.told (zeroed choices) choices
   pub writes : after ≡ out_after step.told (frame Openings (places_of k) s.rounds (openings_of s.rounds k message choices)) out

@@ -2,11 +2,11 @@
 #![tactic(auto)]
 
 use card_rules::session::Session;
-use writers::Written;
+use refusals::Refusal;
 
 // What a step answers; the record as it was where it refuses.
 #[derive(Clone, Copy)]
 pub struct Step {
-    pub told: Written,
+    pub told: Result<usize, Refusal>,
     pub next: Session,
 }

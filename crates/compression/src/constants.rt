@@ -17,6 +17,7 @@ pub const K: [u32; 64] = [
 ];
 
 // Section 5.3.3.
+#[tactic(auto, unfolding(crate::specs::Constants::H0))]
 pub fn initial() -> Words
     ensures { result ≡ H0 }
 {

@@ -23,6 +23,7 @@ pub struct Words {
 }
 
 // A word of the schedule from the words 2, 7, 15 and 16 places before it.
+#[tactic(auto, unfolding(crate::specs::Block::expand_of))]
 fn expand(w2: u32, w7: u32, w15: u32, w16: u32) -> u32
     ensures { result ≡ expand_of w2 w7 w15 w16 }
 {
@@ -35,19 +36,17 @@ fn schedule(block: &[u8]) -> [u32; 64]
     ensures { result ≡ W block.now 64 }
 {
     let mut w = [0u32; 64];
-    let mut t = 0;
-    while t < 16 {
+    for t in 0..16 {
         w[t] = word_at(block, 4 * t);
-        t += 1;
     }
-    while t < 64 {
+    for t in 16..64 {
         w[t] = expand(w[t - 2], w[t - 7], w[t - 15], w[t - 16]);
-        t += 1;
     }
     w
 }
 
 // One turn of step 3, at the constant k and the word w of the schedule.
+#[tactic(auto, unfolding(crate::specs::Block::turn_of, crate::specs::Block::T1, crate::specs::Block::T2))]
 fn turn(s: Words, k: u32, w: u32) -> Words
     ensures { result ≡ turn_of s k w }
 {
@@ -72,20 +71,18 @@ fn turn(s: Words, k: u32, w: u32) -> Words
 fn turns(v: Words, w: &[u32; 64]) -> Words
     ensures { result ≡ turns_of w.now 64 v }
 {
-    let k = &K;
     let mut s = v;
-    let mut t = 0;
-    while t < 64 {
-        s = turn(s, k[t], w[t]);
-        s = turn(s, k[t + 1], w[t + 1]);
-        s = turn(s, k[t + 2], w[t + 2]);
-        s = turn(s, k[t + 3], w[t + 3]);
-        t += 4;
+    for t in (0..64).step_by(4) {
+        s = turn(s, K[t], w[t]);
+        s = turn(s, K[t + 1], w[t + 1]);
+        s = turn(s, K[t + 2], w[t + 2]);
+        s = turn(s, K[t + 3], w[t + 3]);
     }
     s
 }
 
 // The hash value after one block more.
+#[tactic(auto, unfolding(crate::specs::Block::compress_of, crate::specs::Block::sum_of))]
 pub fn compress(v: Words, block: &[u8]) -> Words
     requires { length block.now ≡ 64 }
     ensures { result ≡ compress_of v block.now }

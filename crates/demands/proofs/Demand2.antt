@@ -3,6 +3,7 @@
 -- refused at none, is accepted for all challenges and bits. Each frame written reads back as its values; each frame read has no other spelling."
 -- Here: the card. The exact verdict: crates/register_rules/proofs/Exact.antt. Frames and their values: crates/writers/proofs/Spelling.antt,
 -- crates/card_steps/proofs/ReadBack.antt.
+use Rattle.std.specs.Prelude.{Ok}
 use mathlib.Core.Path.{◌≡◌, refl, sym, ap, ◌∙◌, subst}
 use mathlib.Core.Bool.{true}
 use mathlib.Core.List.{List, [], ◌∷◌}
@@ -17,7 +18,6 @@ use Rattle.algebra.proofs.Lists.{front}
 use Rattle.kinds.specs.declared.Kind.{Kind}
 use Rattle.kinds.specs.declared.Kind.TheVariants.{Commitments, Challenges, Answers, Bits, Openings}
 use Rattle.kinds.specs.declared.Expected.{Expected}
-use Rattle.writers.specs.declared.Written.TheVariants.{Wrote}
 use Rattle.kinds.specs.Kinds.{limits, within, alone, of_places, exactly, fits}
 use Rattle.frames.specs.Reading.{rest_of}
 use Rattle.writers.specs.Writing.{frame}
@@ -55,20 +55,20 @@ pub record SignedOn (N : ℕ) (k : Keys) (choices challenges bits : List ℕ) : 
   pub commitments : List ℕ
   pub bytes₁ : ℕ
   pub begins : BeginStep record₀ N k choices out₁ begin commitments
-  pub begin-told : begin.told ≡ Wrote bytes₁
+  pub begin-told : begin.told ≡ Ok bytes₁
   pub out₂ : List ℕ
   pub answer : Step
   pub answers : List ℕ
   pub bytes₂ : ℕ
   pub answering : AnswerStep begin.next k challenges choices out₂ answer answers
-  pub answer-told : answer.told ≡ Wrote bytes₂
+  pub answer-told : answer.told ≡ Ok bytes₂
   pub out₃ : List ℕ
   pub open' : Step
   pub left : List ℕ
   pub openings : List ℕ
   pub bytes₃ : ℕ
   pub opens : OpenStep answer.next k bits choices out₃ open' left openings
-  pub open-told : open'.told ≡ Wrote bytes₃
+  pub open-told : open'.told ≡ Ok bytes₃
 
 -- what the register is lent: the frames written, as many bytes as each call told, and the frames sent
 abbrev pub sent_by : (N : ℕ) (k : Keys) (choices challenges bits : List ℕ) → SignedOn N k choices challenges bits → SignOn

@@ -1,4 +1,5 @@
 -- The hypotheses of the demands' theorems are met: 20 rounds of the small system of document 01. Refusals are computed; of the hash one digest.
+use Rattle.std.specs.Prelude.{Ok}
 use mathlib.Core.Path.{◌≡◌, refl}
 use mathlib.Core.Bool.{true, false}
 use mathlib.Core.List.{List, [], ◌∷◌, ◌++◌}
@@ -15,7 +16,6 @@ use Rattle.compression.specs.Block.{T1, T2, W, compress_of, expand_of, sum_of, t
 use Rattle.word32.specs.Operations.{Ch, Maj, ROTR, word_at, ◌⊞◌, Σ0, Σ1, σ0, σ1}
 use Rattle.sha256.specs.Standard.{block_at, block_count, bytes, bytes_of, bytes_of_words, digest_of, hash_value, pad, padding, zeros}
 use Rattle.kinds.specs.declared.Kind.TheVariants.{Commitments, Challenges, Answers, Openings}
-use Rattle.writers.specs.declared.Written.TheVariants.{Wrote}
 use Rattle.packed_bits.specs.PackedBits.{bit_at, unused_clear}
 use Rattle.bodies.specs.Bodies.{values, permutations}
 use Rattle.frames.specs.Reading.{header, shape, reading, rest_of}
@@ -90,19 +90,19 @@ signed =
     record {
       record₀ = fresh;
       out₁ = outputs 1285;
-      begin = record { told = Wrote 1285; next = begun N small };
+      begin = record { told = Ok 1285; next = begun N small };
       commitments = over (frame Commitments N 0 (commitments_of N small choices)) (outputs 1285);
       bytes₁ = 1285;
       begins = record { says = begin-told; moves = refl; writes = refl };
       begin-told = refl;
       out₂ = outputs 66;
-      answer = record { told = Wrote 66; next = after-answer };
+      answer = record { told = Ok 66; next = after-answer };
       answers = over (frame Answers 3 (begun N small).rounds (answers_of (begun N small).rounds small challenges choices)) (outputs 66);
       bytes₂ = 66;
       answering = record { says = answer-told; moves = refl; writes = refl };
       answer-told = refl;
       out₃ = outputs 66;
-      open' = record { told = Wrote 66; next = closed after-answer };
+      open' = record { told = Ok 66; next = closed after-answer };
       left = zeroed choices;
       openings = over (frame Openings 3 after-answer.rounds (openings_of after-answer.rounds small bits choices)) (outputs 66);
       bytes₃ = 66;

@@ -3,17 +3,17 @@
 
 use desk_arguments::command::{Command, command_named, is_unknown};
 use desk_arguments::help::help;
-use desk_arguments::take_in::take_in;
+use desk_arguments::take_in::{take_in, tell};
 use desk_files::argument::fail;
-use desk_files::slots::{FILE_MOST, SLOT, SLOTS, file};
+use desk_files::slots::{FILE_MOST, Slots};
 use frame_words::show;
-use refusals::buffer::NONE;
+use refusals::Buffer;
 use std::rt::{Env, Files};
 
 // The argument that names the command.
 const NAME_AT: usize = 1;
 
-fn run<R: Env + Files>(rt: &R, command: Command, lent: &[u8], room: &mut [u8], out: &mut [u8]) {
+fn run<R: Env + Files>(rt: &R, command: Command, lent: &Slots, room: &mut [u8], out: &mut [u8]) {
     match command {
         Command::System => desk_commands::new_system::system(rt, lent, room, out),
         Command::Key => desk_commands::new_key::key(rt, lent, out),
@@ -27,7 +27,7 @@ fn run<R: Env + Files>(rt: &R, command: Command, lent: &[u8], room: &mut [u8], o
         Command::GiveUp => desk_card::give_up(rt, lent, room),
         Command::Verdict => desk_commands::at_register::judge(rt, lent),
         Command::StandIn => desk_commands::without_key::play(rt, lent, out),
-        Command::Show => show(file(lent, NONE)),
+        Command::Show => show(lent.file(Buffer::NoBuffer)),
         Command::Flip => desk_commands::flip::flip(rt, lent, out),
         Command::Help => help(command),
     }
@@ -35,11 +35,16 @@ fn run<R: Env + Files>(rt: &R, command: Command, lent: &[u8], room: &mut [u8], o
 
 fn main(rt: HostRuntime) {
     let command = command_named(&rt, NAME_AT);
-    let mut lent = [0u8; SLOTS * SLOT];
-    let mut room = [0u8; FILE_MOST];
-    let mut out = [0u8; FILE_MOST];
-    if take_in(&rt, command, &mut lent) {
-        run(&rt, command, &lent, &mut room, &mut out);
+    let mut lent = Slots::empty();
+    match take_in(&rt, command, &mut lent) {
+        Ok(()) => run(
+            &rt,
+            command,
+            &lent,
+            &mut [0; FILE_MOST],
+            &mut [0; FILE_MOST],
+        ),
+        Err(e) => tell(&rt, command, e),
     }
     if is_unknown(&rt, command, NAME_AT) {
         fail(&rt, NAME_AT, b" is no command of the desk");

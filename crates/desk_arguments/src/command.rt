@@ -1,8 +1,8 @@
 // The commands by their names.
-use desk_files::argument::{is_present, is_word};
+use desk_files::argument::{argument, is_present, is_word};
 use std::rt::Env;
 
-#[derive(Clone, Copy)]
+#[derive(Clone, Copy, PartialEq, Eq)]
 pub enum Command {
     System,
     Key,
@@ -21,77 +21,32 @@ pub enum Command {
     Help,
 }
 
-fn other_named(rt: &impl Env, at: usize) -> Command {
-    if is_word(rt, at, b"stand-in") {
-        return Command::StandIn;
+fn of_name(name: &[u8]) -> Command {
+    match name {
+        b"system" => Command::System,
+        b"key" => Command::Key,
+        b"check-key" => Command::CheckKey,
+        b"choices" => Command::Choices,
+        b"begin" => Command::Begin,
+        b"challenges" => Command::Challenges,
+        b"answer" => Command::Answer,
+        b"bits" => Command::Bits,
+        b"open" => Command::Open,
+        b"give-up" => Command::GiveUp,
+        b"verdict" => Command::Verdict,
+        b"stand-in" => Command::StandIn,
+        b"show" => Command::Show,
+        b"flip" => Command::Flip,
+        _ => Command::Help,
     }
-    if is_word(rt, at, b"show") {
-        return Command::Show;
-    }
-    if is_word(rt, at, b"flip") {
-        return Command::Flip;
-    }
-    Command::Help
-}
-
-fn of_register_named(rt: &impl Env, at: usize) -> Command {
-    if is_word(rt, at, b"challenges") {
-        return Command::Challenges;
-    }
-    if is_word(rt, at, b"bits") {
-        return Command::Bits;
-    }
-    if is_word(rt, at, b"verdict") {
-        return Command::Verdict;
-    }
-    other_named(rt, at)
-}
-
-fn of_card_named(rt: &impl Env, at: usize) -> Command {
-    if is_word(rt, at, b"choices") {
-        return Command::Choices;
-    }
-    if is_word(rt, at, b"begin") {
-        return Command::Begin;
-    }
-    if is_word(rt, at, b"answer") {
-        return Command::Answer;
-    }
-    if is_word(rt, at, b"open") {
-        return Command::Open;
-    }
-    if is_word(rt, at, b"give-up") {
-        return Command::GiveUp;
-    }
-    of_register_named(rt, at)
 }
 
 // The command that the argument names; help where there is none of that name.
 pub fn command_named(rt: &impl Env, at: usize) -> Command {
-    if is_word(rt, at, b"system") {
-        return Command::System;
-    }
-    if is_word(rt, at, b"key") {
-        return Command::Key;
-    }
-    if is_word(rt, at, b"check-key") {
-        return Command::CheckKey;
-    }
-    of_card_named(rt, at)
-}
-
-// Whether there is such an argument, and it does not ask for help.
-fn is_some_other_word(rt: &impl Env, at: usize) -> bool {
-    if !is_present(rt, at) {
-        return false;
-    }
-    !is_word(rt, at, b"help")
+    of_name(argument(rt, at, &mut io::buffer()))
 }
 
 // Whether the argument, which names this command, is the name of none.
 pub fn is_unknown(rt: &impl Env, command: Command, at: usize) -> bool {
-    match command {
-        Command::Help => is_some_other_word(rt, at),
-        _ => false,
-    }
+    command == Command::Help && is_present(rt, at) && !is_word(rt, at, b"help")
 }

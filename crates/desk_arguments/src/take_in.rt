@@ -1,71 +1,56 @@
 // Takes in the arguments of a command.
-ghost use Rattle.std.specs.Prelude.{◌≡◌, length};
-ghost use Rattle.desk_files.specs.Slots.{slot_size, lent_size};
-
 use crate::command::Command;
 use crate::help::help;
-use crate::role::{END, NEW_RECORD, NUMBER, RECORD, ROLES, SOURCE, role_of};
-use desk_files::argument::{FIRST, given};
-use desk_files::load::{load_new_record, load_number, load_random, load_record, load_whole};
-use desk_files::slots::{SLOT, slot_start};
-use refusals::buffer::{NONE, OUTPUT, RANDOM};
+use crate::role::{Role, roles};
+use desk_files::argument::{FIRST, fail, given};
+use desk_files::load::{
+    LoadError, load_new_record, load_number, load_random, load_record, load_whole,
+};
+use desk_files::slots::Slots;
+use refusals::Buffer;
 use std::rt::{Env, Files};
 
-fn load_in<R: Env + Files>(rt: &R, role: u8, at: usize, slot: &mut [u8]) -> bool
-    requires { length slot.old ≡ slot_size }
-{
+// Why a command can't be run.
+#[derive(Clone, Copy)]
+pub enum TakeError {
+    // It is given fewer arguments than it takes, or more.
+    Count,
+    // The argument can't be taken in.
+    Argument(usize, LoadError),
+}
+
+fn load<R: Env + Files>(rt: &R, role: Role, at: usize, lent: &mut Slots) -> Result<(), LoadError> {
     match role {
-        END | SOURCE | OUTPUT => true,
-        NUMBER => load_number(rt, at),
-        RANDOM => load_random(rt, at, slot),
-        RECORD => load_record(rt, at, slot),
-        NEW_RECORD => load_new_record(rt, at, slot),
-        _ => load_whole(rt, at, slot),
+        Role::Number => load_number(rt, at),
+        Role::Record => load_record(rt, at, lent.slot_mut(Buffer::NoBuffer)),
+        Role::NewRecord => load_new_record(rt, at, lent.slot_mut(Buffer::NoBuffer)),
+        Role::Random => load_random(rt, at, lent.slot_mut(Buffer::Random)),
+        Role::File(buffer) => load_whole(rt, at, lent.slot_mut(buffer)),
+        Role::Source | Role::Output => Ok(()),
     }
 }
 
-// The buffer whose slot a role has.
-fn buffer_of(role: u8) -> u8 {
-    if role <= OUTPUT {
-        return role;
+// Takes in all arguments, each file into its slot.
+pub fn take_in<R: Env + Files>(
+    rt: &R,
+    command: Command,
+    lent: &mut Slots,
+) -> Result<(), TakeError> {
+    let roles = roles(command);
+    if given(rt) != roles.len() {
+        return Err(TakeError::Count);
     }
-    NONE
+    for (k, role) in roles.iter().enumerate() {
+        let at = FIRST + k;
+        load(rt, *role, at, lent).map_err(|e| TakeError::Argument(at, e))?;
+    }
+    Ok(())
 }
 
-fn load<R: Env + Files>(rt: &R, role: u8, at: usize, lent: &mut [u8]) -> bool
-    requires { length lent.old ≡ lent_size }
-{
-    let start = slot_start(buffer_of(role));
-    let end = start + SLOT;
-    load_in(rt, role, at, &mut lent[start..end])
-}
-
-// Whether there are as many arguments as the command takes.
-fn is_as_called(rt: &impl Env, command: Command) -> bool {
-    let given = given(rt);
-    if role_of(command, given) != END {
-        return false;
+// Says why the command can't be run.
+pub fn tell(rt: &impl Env, command: Command, error: TakeError) {
+    match error {
+        TakeError::Count => help(command),
+        TakeError::Argument(at, e) => fail(rt, at, e.words()),
     }
-    if given == 0 {
-        return true;
-    }
-    role_of(command, given - 1) != END
-}
-
-// Takes in all arguments, and answers whether the command can be run; otherwise it has been said why not.
-pub fn take_in<R: Env + Files>(rt: &R, command: Command, lent: &mut [u8]) -> bool
-    requires { length lent.old ≡ lent_size }
-{
-    if !is_as_called(rt, command) {
-        help(command);
-        return false;
-    }
-    let mut k: usize = 0;
-    while k < ROLES {
-        if !load(rt, role_of(command, k), FIRST + k, lent) {
-            return false;
-        }
-        k += 1;
-    }
-    true
 }

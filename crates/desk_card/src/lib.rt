@@ -6,19 +6,18 @@ use card::begin::begin_step;
 use card::give_up::give_up_step;
 use card::open::open_step;
 use card_checks::key::check_key;
+use card_rules::keys::Keys;
 use card_rules::session::Session;
 use card_steps::Step;
 use desk_files::argument::number;
-use desk_files::save::{NOTHING, save_three};
-use desk_files::slots::file;
+use desk_files::save::{Output, save_all};
+use desk_files::slots::Slots;
 use desk_outcomes::refuse;
 use hosting::bytes::{front, lay};
 use hosting::text::say;
-use record_bytes::{put_session, session_of};
-use refusals::Checked;
-use refusals::buffer::{BITS, CHALLENGES, CHOICES, NONE, PUBLIC, SECRET, SYSTEM};
+use record_bytes::{record_of, session_of};
+use refusals::Buffer;
 use std::rt::{Env, Files};
-use writers::Written;
 
 // The arguments of begin, answer and open.
 const RECORD_AT: usize = 2;
@@ -32,102 +31,102 @@ const OUT_AT: usize = 8;
 // The choices of give-up.
 const GIVEN_UP_AT: usize = 3;
 
-// SYSTEM PUBLIC SECRET
-pub fn check(lent: &[u8]) {
-    match check_key(file(lent, SYSTEM), file(lent, PUBLIC), file(lent, SECRET)) {
-        Checked::Refused(x) => refuse(x, lent),
-        Checked::Fine => say(b"done\n"),
+fn keys_in(lent: &Slots) -> Keys {
+    Keys {
+        system: lent.file(Buffer::System),
+        public: lent.file(Buffer::Public),
+        secret: lent.file(Buffer::Secret),
     }
 }
 
-fn session_in(lent: &[u8]) -> Session {
-    session_of(file(lent, NONE))
+// SYSTEM PUBLIC SECRET
+pub fn check(lent: &Slots) {
+    match check_key(&keys_in(lent)) {
+        Err(x) => refuse(x, lent),
+        Ok(()) => say(b"done\n"),
+    }
+}
+
+fn session_in(lent: &Slots) -> Session {
+    session_of(lent.file(Buffer::NoBuffer))
 }
 
 // Saves choices, record and output, in this order: nothing is shown before the record has moved on and the choices are gone.
-fn keep<R: Env + Files>(
-    rt: &R,
-    next: Session,
-    choices_at: usize,
-    choices: &[u8],
-    out_at: usize,
-    out: &[u8],
-) {
-    let mut bytes = [0u8; 68];
-    put_session(next, &mut bytes);
-    save_three(rt, choices_at, choices, RECORD_AT, &bytes, out_at, out);
+fn keep<R: Env + Files>(rt: &R, next: Session, choices: Option<Output>, out: Option<Output>) {
+    let record = Output {
+        at: RECORD_AT,
+        bytes: &record_of(next),
+    };
+    save_all(rt, &[choices, Some(record), out]);
 }
 
-fn finish<R: Env + Files>(
-    rt: &R,
-    step: Step,
-    lent: &[u8],
-    choices_at: usize,
-    choices: &[u8],
-    out: &[u8],
-) {
-    let told = step.told;
-    let next = step.next;
-    match told {
-        Written::Refused(x) => refuse(x, lent),
-        Written::Wrote(count) => keep(rt, next, choices_at, choices, OUT_AT, front(out, count)),
+fn finish<R: Env + Files>(rt: &R, step: Step, lent: &Slots, choices: Option<Output>, out: &[u8]) {
+    match step.told {
+        Err(x) => refuse(x, lent),
+        Ok(count) => {
+            let out = Output {
+                at: OUT_AT,
+                bytes: front(out, count),
+            };
+            keep(rt, step.next, choices, Some(out));
+        }
     }
 }
 
 // RECORD ROUNDS SYSTEM PUBLIC SECRET CHOICES OUT
-pub fn begin<R: Env + Files>(rt: &R, lent: &[u8], out: &mut [u8]) {
+pub fn begin<R: Env + Files>(rt: &R, lent: &Slots, out: &mut [u8]) {
     let step = begin_step(
         session_in(lent),
         number(rt, ROUNDS_AT),
-        file(lent, SYSTEM),
-        file(lent, PUBLIC),
-        file(lent, SECRET),
-        file(lent, CHOICES),
+        &keys_in(lent),
+        lent.file(Buffer::Choices),
         out,
     );
-    finish(rt, step, lent, NOTHING, b"", out);
+    finish(rt, step, lent, None, out);
 }
 
 // RECORD SYSTEM PUBLIC SECRET CHALLENGES CHOICES OUT
-pub fn answer<R: Env + Files>(rt: &R, lent: &[u8], out: &mut [u8]) {
+pub fn answer<R: Env + Files>(rt: &R, lent: &Slots, out: &mut [u8]) {
     let step = answer_step(
         session_in(lent),
-        file(lent, SYSTEM),
-        file(lent, PUBLIC),
-        file(lent, SECRET),
-        file(lent, CHALLENGES),
-        file(lent, CHOICES),
+        &keys_in(lent),
+        lent.file(Buffer::Challenges),
+        lent.file(Buffer::Choices),
         out,
     );
-    finish(rt, step, lent, NOTHING, b"", out);
+    finish(rt, step, lent, None, out);
 }
 
-fn open_with<R: Env + Files>(rt: &R, lent: &[u8], choices: &mut [u8], out: &mut [u8]) {
+fn open_with<R: Env + Files>(rt: &R, lent: &Slots, choices: &mut [u8], out: &mut [u8]) {
     let step = open_step(
         session_in(lent),
-        file(lent, SYSTEM),
-        file(lent, PUBLIC),
-        file(lent, SECRET),
-        file(lent, BITS),
+        &keys_in(lent),
+        lent.file(Buffer::Bits),
         choices,
         out,
     );
-    finish(rt, step, lent, CHOICES_AT, choices, out);
+    let choices = Output {
+        at: CHOICES_AT,
+        bytes: choices,
+    };
+    finish(rt, step, lent, Some(choices), out);
 }
 
 // RECORD SYSTEM PUBLIC SECRET BITS CHOICES OUT
-pub fn open<R: Env + Files>(rt: &R, lent: &[u8], room: &mut [u8], out: &mut [u8]) {
-    let size = lay(file(lent, CHOICES), room);
-    open_with(rt, lent, &mut room[..size], out);
+pub fn open<R: Env + Files>(rt: &R, lent: &Slots, room: &mut [u8], out: &mut [u8]) {
+    open_with(rt, lent, lay(lent.file(Buffer::Choices), room), out);
 }
 
-fn give_up_with<R: Env + Files>(rt: &R, lent: &[u8], choices: &mut [u8]) {
+fn give_up_with<R: Env + Files>(rt: &R, lent: &Slots, choices: &mut [u8]) {
     let next = give_up_step(session_in(lent), choices);
-    keep(rt, next, GIVEN_UP_AT, choices, NOTHING, b"");
+    let choices = Output {
+        at: GIVEN_UP_AT,
+        bytes: choices,
+    };
+    keep(rt, next, Some(choices), None);
 }
 
 // RECORD CHOICES
-pub fn give_up<R: Env + Files>(rt: &R, lent: &[u8], room: &mut [u8]) {
-    let size = lay(file(lent, CHOICES), room);
-    give_up_with(rt, lent, &mut room[..size]);
+pub fn give_up<R: Env + Files>(rt: &R, lent: &Slots, room: &mut [u8]) {
+    give_up_with(rt, lent, lay(lent.file(Buffer::Choices), room));
 }

@@ -1,11 +1,11 @@
 // The register's verdict.
 use desk_files::argument::number;
-use desk_files::slots::file;
+use desk_files::slots::Slots;
 use desk_outcomes::refuse;
 use hosting::text::{say, say_with};
-use refusals::buffer::{ANSWERS, BITS, CHALLENGES, COMMITMENTS, OPENINGS, PUBLIC, SYSTEM};
+use refusals::Buffer;
 use register::decide::verdict;
-use register_rules::Verdict;
+use register_rules::SignOn;
 use std::rt::Env;
 
 const GRADE_AT: usize = 2;
@@ -16,18 +16,18 @@ fn say_accepted(rounds: usize) {
 }
 
 // GRADE SYSTEM PUBLIC COMMITMENTS CHALLENGES ANSWERS BITS OPENINGS
-pub fn judge(rt: &impl Env, lent: &[u8]) {
-    match verdict(
-        number(rt, GRADE_AT),
-        file(lent, SYSTEM),
-        file(lent, PUBLIC),
-        file(lent, COMMITMENTS),
-        file(lent, CHALLENGES),
-        file(lent, ANSWERS),
-        file(lent, BITS),
-        file(lent, OPENINGS),
-    ) {
-        Verdict::Refused(x) => refuse(x, lent),
-        Verdict::Accepted(rounds) => say_accepted(rounds),
+pub fn judge(rt: &impl Env, lent: &Slots) {
+    let x = SignOn {
+        system: lent.file(Buffer::System),
+        key: lent.file(Buffer::Public),
+        commitments: lent.file(Buffer::Commitments),
+        challenges: lent.file(Buffer::Challenges),
+        answers: lent.file(Buffer::Answers),
+        bits: lent.file(Buffer::Bits),
+        openings: lent.file(Buffer::Openings),
+    };
+    match verdict(number(rt, GRADE_AT), &x) {
+        Err(refusal) => refuse(refusal, lent),
+        Ok(rounds) => say_accepted(rounds),
     }
 }

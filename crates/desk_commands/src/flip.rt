@@ -1,9 +1,9 @@
 // Flips one bit of a file, to break a message.
 use desk_files::argument::{fail, number};
 use desk_files::save::save;
-use desk_files::slots::file;
-use hosting::bytes::{front, lay};
-use refusals::buffer::NONE;
+use desk_files::slots::Slots;
+use hosting::bytes::lay;
+use refusals::Buffer;
 use std::rt::{Env, Files};
 
 // The arguments.
@@ -21,11 +21,11 @@ fn flip_bit(x: u8, k: usize) -> u8 {
 }
 
 // FILE PLACE BIT OUT
-pub fn flip<R: Env + Files>(rt: &R, lent: &[u8], out: &mut [u8]) {
-    let size = lay(file(lent, NONE), out);
+pub fn flip<R: Env + Files>(rt: &R, lent: &Slots, out: &mut [u8]) {
+    let bytes = lay(lent.file(Buffer::NoBuffer), out);
     let place = number(rt, PLACE_AT);
     let bit = number(rt, BIT_AT);
-    if size <= place {
+    if bytes.len() <= place {
         fail(rt, FILE_AT, b" has no byte at that place");
         return;
     }
@@ -37,6 +37,6 @@ pub fn flip<R: Env + Files>(rt: &R, lent: &[u8], out: &mut [u8]) {
         );
         return;
     }
-    out[place] = flip_bit(out[place], bit);
-    save(rt, OUT_AT, front(out, size));
+    bytes[place] = flip_bit(bytes[place], bit);
+    save(rt, OUT_AT, bytes);
 }

@@ -1,8 +1,8 @@
 // A round made without a key.
 use desk_files::argument::number;
-use desk_files::slots::file;
+use desk_files::slots::Slots;
 use desk_outcomes::keep_written;
-use refusals::buffer::{CHOICES, PUBLIC, SYSTEM};
+use refusals::Buffer;
 use stand_in::stand_in;
 use std::rt::{Env, Files};
 
@@ -14,13 +14,13 @@ const BIT_AT: usize = 3;
 const OUT_AT: usize = 7;
 
 // CHALLENGE BIT SYSTEM PUBLIC LENT OUT
-pub fn play<R: Env + Files>(rt: &R, lent: &[u8], out: &mut [u8]) {
+pub fn play<R: Env + Files>(rt: &R, lent: &Slots, out: &mut [u8]) {
     let told = stand_in(
         number(rt, CHALLENGE_AT),
         number(rt, BIT_AT),
-        file(lent, SYSTEM),
-        file(lent, PUBLIC),
-        file(lent, CHOICES),
+        lent.file(Buffer::System),
+        lent.file(Buffer::Public),
+        lent.file(Buffer::Choices),
         out,
     );
     keep_written(rt, told, lent, OUT_AT, out);

@@ -1,3 +1,2 @@
--- The numbers and sizes of the arguments and files of the desk.
+-- The numbers among the arguments of the desk.
 pub mod Numbers
-pub mod Slots

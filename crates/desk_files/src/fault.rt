@@ -43,13 +43,12 @@ impl Write for Message {
 
 // The words in front of the system's number of the error.
 fn without_number(words: &[u8]) -> &[u8] {
-    match from_utf8(words) {
-        Ok(text) => match text.split_once(" (os error ") {
-            Some((front, _)) => front.as_bytes(),
-            None => words,
-        },
-        Err(_) => words,
+    if let Ok(text) = from_utf8(words)
+        && let Some((front, _)) = text.split_once(" (os error ")
+    {
+        return front.as_bytes();
     }
+    words
 }
 
 // What was asked for, a colon, and what the error says.

@@ -1,129 +1,102 @@
-// Files and numbers, taken in by the arguments that name them. Where one can't be, a line says so and the answer is false.
-ghost use Rattle.std.specs.Prelude.{◌≡◌, length};
-ghost use Rattle.desk_files.specs.Slots.{slot_size};
-
-use crate::argument::{Parsed, argument, fail, number_at};
+// Files and numbers, taken in by the arguments that name them.
+use crate::argument::{argument, number_at};
 use crate::fault::tell_fault;
-use crate::path::{open_to_read, read_full};
-use crate::slots::note_size;
+use crate::path::open_to_read;
+use crate::slots::Slot;
 use std::io::{ErrorKind, Read};
 use std::rt::{Env, Files};
 
 const RECORD_SIZE: usize = 68;
 
-// Opens the file that an argument names for reading, or says why it can't be opened.
-pub fn open_source<R: Env + Files>(rt: &R, at: usize) -> Option<R::File> {
-    let mut path = io::buffer();
-    let size = argument(rt, at, &mut path);
-    match open_to_read(rt, &path[..size]) {
-        Ok(file) => Some(file),
+// Why an argument can't be taken in.
+#[derive(Clone, Copy)]
+pub enum LoadError {
+    NoNumber,
+    Unopened,
+    Unread,
+    TooLarge,
+    NoRecord,
+}
+
+impl LoadError {
+    // What is said of the argument.
+    pub fn words(self) -> &'static [u8] {
+        match self {
+            LoadError::NoNumber => b" is no number of 0 to 65535",
+            LoadError::Unopened => b" can't be opened for reading",
+            LoadError::Unread => b" can't be read",
+            LoadError::TooLarge => b" is too large: no file here has more than 16384 bytes",
+            LoadError::NoRecord => b" is no record: a record has 68 bytes",
+        }
+    }
+}
+
+// Opens the file that an argument names for reading.
+pub fn open_source<R: Env + Files>(rt: &R, at: usize) -> Result<R::File, LoadError> {
+    let mut room = io::buffer();
+    let path = argument(rt, at, &mut room);
+    match open_to_read(rt, path) {
+        Ok(file) => Ok(file),
         Err(e) => {
-            tell_fault(&path[..size], e);
-            fail(rt, at, b" can't be opened for reading");
-            None
+            tell_fault(path, e);
+            Err(LoadError::Unopened)
         }
     }
 }
 
 // Whether there is no file of the name.
 fn is_new<R: Env + Files>(rt: &R, at: usize) -> bool {
-    let mut path = io::buffer();
-    let size = argument(rt, at, &mut path);
-    match open_to_read(rt, &path[..size]) {
+    match open_to_read(rt, argument(rt, at, &mut io::buffer())) {
         Ok(_) => false,
         Err(e) => e.kind() == ErrorKind::NotFound,
     }
 }
 
-pub fn load_number(rt: &impl Env, at: usize) -> bool {
+pub fn load_number(rt: &impl Env, at: usize) -> Result<(), LoadError> {
     match number_at(rt, at) {
-        Parsed::Is(_) => true,
-        Parsed::Isnt => {
-            fail(rt, at, b" is no number of 0 to 65535");
-            false
-        }
+        Some(_) => Ok(()),
+        None => Err(LoadError::NoNumber),
     }
 }
 
-// Whether the file has been read to its end.
-fn at_end(rt: &impl Env, file: &mut impl Read, at: usize) -> bool {
-    let mut more = [0u8; 1];
-    match file.read(&mut more) {
-        Ok(0) => true,
-        Ok(_) => {
-            fail(
-                rt,
-                at,
-                b" is too large: no file here has more than 16384 bytes",
-            );
-            false
-        }
-        Err(_) => {
-            fail(rt, at, b" can't be read");
-            false
-        }
+// Reads no further than where the file has to end.
+fn at_end(file: &mut impl Read) -> Result<(), LoadError> {
+    match file.read(&mut [0]) {
+        Ok(0) => Ok(()),
+        Ok(_) => Err(LoadError::TooLarge),
+        Err(_) => Err(LoadError::Unread),
     }
 }
 
-// Reads the file into its slot, and answers how many bytes came.
-fn fill(file: &mut impl Read, slot: &mut [u8]) -> usize
-    requires { length slot.old ≡ slot_size }
-{
-    let size = read_full(file, &mut slot[2..]);
-    note_size(size, slot);
-    size
-}
-
-pub fn load_whole<R: Env + Files>(rt: &R, at: usize, slot: &mut [u8]) -> bool
-    requires { length slot.old ≡ slot_size }
-{
-    match open_source(rt, at) {
-        Some(mut file) => {
-            fill(&mut file, slot);
-            at_end(rt, &mut file, at)
-        }
-        None => false,
-    }
+pub fn load_whole<R: Env + Files>(rt: &R, at: usize, slot: &mut Slot) -> Result<(), LoadError> {
+    let mut file = open_source(rt, at)?;
+    slot.fill(&mut file);
+    at_end(&mut file)
 }
 
 // As many random bytes as there is room for.
-pub fn load_random<R: Env + Files>(rt: &R, at: usize, slot: &mut [u8]) -> bool
-    requires { length slot.old ≡ slot_size }
-{
-    match open_source(rt, at) {
-        Some(mut file) => {
-            fill(&mut file, slot);
-            true
-        }
-        None => false,
+pub fn load_random<R: Env + Files>(rt: &R, at: usize, slot: &mut Slot) -> Result<(), LoadError> {
+    slot.fill(&mut open_source(rt, at)?);
+    Ok(())
+}
+
+pub fn load_record<R: Env + Files>(rt: &R, at: usize, slot: &mut Slot) -> Result<(), LoadError> {
+    slot.fill(&mut open_source(rt, at)?);
+    match slot.file().len() {
+        RECORD_SIZE => Ok(()),
+        _ => Err(LoadError::NoRecord),
     }
 }
 
-// Whether as many bytes came as a record has.
-fn is_record(rt: &impl Env, at: usize, size: usize) -> bool {
-    if size != RECORD_SIZE {
-        fail(rt, at, b" is no record: a record has 68 bytes");
-        return false;
-    }
-    true
-}
-
-pub fn load_record<R: Env + Files>(rt: &R, at: usize, slot: &mut [u8]) -> bool
-    requires { length slot.old ≡ slot_size }
-{
-    match open_source(rt, at) {
-        Some(mut file) => is_record(rt, at, fill(&mut file, slot)),
-        None => false,
-    }
-}
-
-// A record whose file is missing is idle: all zeros, as the slot is.
-pub fn load_new_record<R: Env + Files>(rt: &R, at: usize, slot: &mut [u8]) -> bool
-    requires { length slot.old ≡ slot_size }
-{
+// A record whose file is missing is idle: all zeros.
+pub fn load_new_record<R: Env + Files>(
+    rt: &R,
+    at: usize,
+    slot: &mut Slot,
+) -> Result<(), LoadError> {
     if is_new(rt, at) {
-        note_size(RECORD_SIZE, slot);
-        return true;
+        *slot = Slot::zeros(RECORD_SIZE);
+        return Ok(());
     }
     load_record(rt, at, slot)
 }

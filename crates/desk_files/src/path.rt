@@ -18,10 +18,7 @@ const NO_TEXT: i32 = 84;
 fn text_of(path: &[u8]) -> Result<&str>
     ensures { IfOk result (λ text. text.now ≡ path.now) }
 {
-    match from_utf8(path) {
-        Ok(text) => Ok(text),
-        Err(_) => Err(Error::from_raw_os_error(NO_TEXT)),
-    }
+    from_utf8(path).map_err(|_| Error::from_raw_os_error(NO_TEXT))
 }
 
 pub fn open_to_read<R: Files>(rt: &R, path: &[u8]) -> Result<R::File> {

@@ -3,169 +3,148 @@
 use crate::argument::{argument, fail, say_argument};
 use crate::fault::tell_fault;
 use crate::path::{create, open_to_update, remove, rename};
-use algebra::output::copy_at;
-use check::same;
-use hosting::bytes::front;
 use hosting::text::{say, say_with};
-use std::io::{Error, ErrorKind, Write};
+use std::io::{ErrorKind, Write};
 use std::rt::{Env, Files};
 
-// The argument of no file: the program's own name.
-pub const NOTHING: usize = 0;
-
-// Whether the path leads to devices, which are no files to be replaced.
-fn is_device(path: &[u8]) -> bool {
-    same(front(path, 5), b"/dev/")
+// A file to be saved: the argument that names it, and what is to be in it.
+#[derive(Clone, Copy)]
+pub struct Output<'a> {
+    pub at: usize,
+    pub bytes: &'a [u8],
 }
 
-// Puts the path that the argument names, with .new behind it, into the room and answers its size, 0 where it is too long.
-fn new_name(rt: &impl Env, at: usize, room: &mut [u8]) -> usize {
-    let size = argument(rt, at, room);
+// Why the file that an argument names is not saved.
+#[derive(Clone, Copy)]
+enum SaveError {
+    Unwritten(usize),
+    Unreplaced(usize),
+}
+
+// The path that the argument names, with .new behind it, which is put into the room; empty where it is too long.
+fn new_name<'a>(rt: &impl Env, at: usize, room: &'a mut [u8]) -> &'a [u8] {
+    let size = argument(rt, at, room).len();
     if room.len() - size < 4 {
-        return 0;
+        return &[];
     }
-    copy_at(b".new", size, room);
-    size + 4
+    room[size..size + 4].copy_from_slice(b".new");
+    &room[..size + 4]
 }
 
-// Says why the file can't be written, and takes away what there is of it.
-fn give_up(rt: &impl Files, path: &[u8], error: Error) -> bool {
-    tell_fault(path, error);
-    let _ = remove(rt, path);
-    false
-}
-
-// Makes the file and writes all of the bytes.
-fn write_new<R: Files>(rt: &R, path: &[u8], bytes: &[u8]) -> bool {
-    match create(rt, path) {
-        Ok(mut file) => match file.write_all(bytes) {
-            Ok(()) => true,
-            Err(e) => give_up(rt, path, e),
-        },
-        Err(e) => {
-            tell_fault(path, e);
-            false
-        }
+// Makes the file and writes all of the bytes, or takes away what there is of it.
+fn write_new<R: Files>(rt: &R, path: &[u8], bytes: &[u8]) -> std::io::Result<()> {
+    let mut file = create(rt, path)?;
+    let written = file.write_all(bytes);
+    if written.is_err() {
+        let _ = remove(rt, path);
     }
+    written
 }
 
-// Whether there is no such file, or one that may be written.
+// Whether there is no such file, or one that may be written. Devices are no files to be replaced.
 fn is_replaceable<R: Env + Files>(rt: &R, at: usize) -> bool {
-    let mut path = io::buffer();
-    let size = argument(rt, at, &mut path);
-    if is_device(&path[..size]) {
+    let mut room = io::buffer();
+    let path = argument(rt, at, &mut room);
+    if path.starts_with(b"/dev/") {
         return false;
     }
-    match open_to_update(rt, &path[..size]) {
+    match open_to_update(rt, path) {
         Ok(_) => true,
         Err(e) => e.kind() == ErrorKind::NotFound,
     }
 }
 
-fn prepare<R: Env + Files>(rt: &R, at: usize, bytes: &[u8]) -> bool {
-    if at == NOTHING {
-        return true;
+impl Output<'_> {
+    // Writes the new file.
+    fn prepare<R: Env + Files>(&self, rt: &R) -> Result<(), SaveError> {
+        if !is_replaceable(rt, self.at) {
+            return Err(SaveError::Unwritten(self.at));
+        }
+        let mut room = io::buffer();
+        let name = new_name(rt, self.at, &mut room);
+        match write_new(rt, name, self.bytes) {
+            Ok(()) => Ok(()),
+            Err(e) => {
+                tell_fault(name, e);
+                Err(SaveError::Unwritten(self.at))
+            }
+        }
     }
-    if !is_replaceable(rt, at) {
-        return false;
+
+    // Takes the new file away.
+    fn discard<R: Env + Files>(&self, rt: &R) {
+        let _ = remove(rt, new_name(rt, self.at, &mut io::buffer()));
     }
-    let mut name = io::buffer();
-    let size = new_name(rt, at, &mut name);
-    write_new(rt, front(&name, size), bytes)
+
+    // Gives the new file its name.
+    fn commit<R: Env + Files>(&self, rt: &R) -> Result<(), SaveError> {
+        let mut name = io::buffer();
+        let mut path = io::buffer();
+        let renamed = rename(
+            rt,
+            new_name(rt, self.at, &mut name),
+            argument(rt, self.at, &mut path),
+        );
+        if renamed.is_err() {
+            self.discard(rt);
+            return Err(SaveError::Unreplaced(self.at));
+        }
+        say(b"wrote ");
+        say_argument(rt, self.at);
+        say_with(b", ", self.bytes.len());
+        say(b" bytes\n");
+        Ok(())
+    }
 }
 
-fn discard<R: Env + Files>(rt: &R, at: usize) {
-    if at == NOTHING {
-        return;
+fn discard_all<R: Env + Files>(rt: &R, outputs: &[Option<Output>]) {
+    for output in outputs {
+        if let Some(output) = output {
+            output.discard(rt);
+        }
     }
-    let mut name = io::buffer();
-    let size = new_name(rt, at, &mut name);
-    let _ = remove(rt, front(&name, size));
 }
 
-fn rename_to<R: Env + Files>(rt: &R, at: usize, name: &[u8]) -> bool {
-    let mut path = io::buffer();
-    let size = argument(rt, at, &mut path);
-    rename(rt, name, &path[..size]).is_ok()
+// Writes every new file, or none.
+fn prepare_all<R: Env + Files>(rt: &R, outputs: &[Option<Output>]) -> Result<(), SaveError> {
+    for (k, output) in outputs.iter().enumerate() {
+        if let Some(output) = output
+            && let Err(e) = output.prepare(rt)
+        {
+            discard_all(rt, &outputs[..k]);
+            return Err(e);
+        }
+    }
+    Ok(())
 }
 
-fn commit<R: Env + Files>(rt: &R, at: usize, bytes: &[u8]) -> bool {
-    if at == NOTHING {
-        return true;
+// Gives each new file its name; where one can't be given, those behind it are taken away.
+fn commit_all<R: Env + Files>(rt: &R, outputs: &[Option<Output>]) -> Result<(), SaveError> {
+    for (k, output) in outputs.iter().enumerate() {
+        if let Some(output) = output
+            && let Err(e) = output.commit(rt)
+        {
+            discard_all(rt, &outputs[k + 1..]);
+            return Err(e);
+        }
     }
-    let mut name = io::buffer();
-    let size = new_name(rt, at, &mut name);
-    if !rename_to(rt, at, front(&name, size)) {
-        let _ = remove(rt, front(&name, size));
-        fail(rt, at, b" can't be replaced");
-        return false;
-    }
-    say(b"wrote ");
-    say_argument(rt, at);
-    say_with(b", ", bytes.len());
-    say(b" bytes\n");
-    true
+    Ok(())
 }
 
-fn fail_writing(rt: &impl Env, at: usize) {
-    fail(rt, at, b" can't be written; no file is changed");
+fn replace_all<R: Env + Files>(rt: &R, outputs: &[Option<Output>]) -> Result<(), SaveError> {
+    prepare_all(rt, outputs)?;
+    commit_all(rt, outputs)
 }
 
-// Whether all three are there, under their new names.
-fn prepare_three<R: Env + Files>(
-    rt: &R,
-    first: usize,
-    x: &[u8],
-    second: usize,
-    y: &[u8],
-    third: usize,
-    z: &[u8],
-) -> bool {
-    if !prepare(rt, first, x) {
-        fail_writing(rt, first);
-        return false;
-    }
-    if !prepare(rt, second, y) {
-        discard(rt, first);
-        fail_writing(rt, second);
-        return false;
-    }
-    if !prepare(rt, third, z) {
-        discard(rt, first);
-        discard(rt, second);
-        fail_writing(rt, third);
-        return false;
-    }
-    true
-}
-
-// Saves three files, each by its argument and its bytes, in this order.
-pub fn save_three<R: Env + Files>(
-    rt: &R,
-    first: usize,
-    x: &[u8],
-    second: usize,
-    y: &[u8],
-    third: usize,
-    z: &[u8],
-) {
-    if !prepare_three(rt, first, x, second, y, third, z) {
-        return;
-    }
-    if !commit(rt, first, x) {
-        discard(rt, second);
-        discard(rt, third);
-        return;
-    }
-    if !commit(rt, second, y) {
-        discard(rt, third);
-        return;
-    }
-    if commit(rt, third, z) {
-        say(b"done\n");
+// Saves the files that there are, in this order.
+pub fn save_all<R: Env + Files>(rt: &R, outputs: &[Option<Output>]) {
+    match replace_all(rt, outputs) {
+        Ok(()) => say(b"done\n"),
+        Err(SaveError::Unwritten(at)) => fail(rt, at, b" can't be written; no file is changed"),
+        Err(SaveError::Unreplaced(at)) => fail(rt, at, b" can't be replaced"),
     }
 }
 
 pub fn save<R: Env + Files>(rt: &R, at: usize, bytes: &[u8]) {
-    save_three(rt, NOTHING, b"", NOTHING, b"", at, bytes);
+    save_all(rt, &[Some(Output { at, bytes })]);
 }

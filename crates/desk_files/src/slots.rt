@@ -1,53 +1,65 @@
-// The files of a command, lent as one stretch of bytes: a slot for each buffer of document 01, in which the file's size comes first, in two bytes.
-// Slot 0, of no buffer, has the record, or the one file of a command that takes any.
-ghost use Rattle.std.specs.Prelude.{◌≤◌, length};
-ghost use Rattle.desk_files.specs.Slots.{last_slot};
+// The files of a command: a slot for each buffer. That of no buffer has the record, or the one file of a command that takes any.
+ghost use Rattle.std.specs.Prelude.{◌≡◌, ◌≤◌, IfSome, replicate, slice_get, take};
+ghost use Rattle.refusals.specs.Buffer.{buffer_number};
 
-use algebra::wide;
+use crate::path::read_full;
+use refusals::Buffer;
+use std::io::Read;
 
 // The most bytes of a file.
 pub const FILE_MOST: usize = 16384;
 
-pub const SLOT: usize = 16386;
+const SLOTS: usize = 12;
 
-pub const SLOTS: usize = 12;
-
-// Where the slot of a buffer starts.
-pub fn slot_start(buffer: u8) -> usize
-    ensures { result ≤ last_slot }
-{
-    let slot = wide(buffer);
-    if SLOTS <= slot {
-        return 0;
-    }
-    slot * SLOT
+// Room for a file, and how much of it the file takes.
+#[derive(Clone, Copy)]
+pub struct Slot {
+    bytes: [u8; FILE_MOST],
+    size: usize,
+    ghost within: { size ≤ 16384 },
 }
 
-// Notes the size of the file in a slot.
-pub fn note_size(size: usize, slot: &mut [u8])
-    requires { 2 ≤ length slot.old }
-{
-    slot[0] = (size / 256 % 256) as u8;
-    slot[1] = (size % 256) as u8;
+impl Slot {
+    // A file of zeros.
+    pub fn zeros(size: usize) -> Slot
+        requires { size ≤ 16384 }
+        ensures { take result.size result.bytes ≡ replicate size 0 }
+    {
+        Slot {
+            bytes: [0; FILE_MOST],
+            size,
+        }
+    }
+
+    pub fn file(&self) -> &[u8]
+        ensures { result.now ≡ take self.now.size self.now.bytes }
+    {
+        &self.bytes[..self.size]
+    }
+
+    // Reads the file into the slot, as far as there is room.
+    pub fn fill(&mut self, file: &mut impl Read) {
+        self.size = read_full(file, &mut self.bytes);
+    }
 }
 
-// The file in the slot.
-fn file_in(slot: &[u8]) -> &[u8] {
-    if slot.len() < 2 {
-        return &slot[..0];
-    }
-    let end = 2 + wide(slot[0]) * 256 + wide(slot[1]);
-    if slot.len() < end {
-        return &slot[..0];
-    }
-    &slot[2..end]
-}
+// The slots of all buffers.
+#[derive(Drop)]
+pub struct Slots([Slot; SLOTS]);
 
-// The file of a buffer; nothing where the command takes none.
-pub fn file(lent: &[u8], buffer: u8) -> &[u8] {
-    let start = slot_start(buffer);
-    if lent.len() < start {
-        return &lent[..0];
+impl Slots {
+    pub fn empty() -> Slots {
+        Slots([Slot::zeros(0); SLOTS])
     }
-    file_in(&lent[start..])
+
+    // The file of a buffer; nothing where the command takes none.
+    pub fn file(&self, buffer: Buffer) -> &[u8]
+        ensures { IfSome (slice_get self.now.0 (buffer_number buffer)) (λ slot. result.now ≡ take slot.size slot.bytes) }
+    {
+        self.0[buffer as usize].file()
+    }
+
+    pub fn slot_mut(&mut self, buffer: Buffer) -> &mut Slot {
+        &mut self.0[buffer as usize]
+    }
 }

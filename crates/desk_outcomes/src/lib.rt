@@ -2,22 +2,26 @@
 #![tactic(auto)]
 
 use desk_files::save::save;
-use desk_files::slots::file;
+use desk_files::slots::Slots;
 use hosting::bytes::front;
 use refusal_words::tell_refusal;
 use refusals::Refusal;
 use std::rt::{Env, Files};
-use writers::Written;
 
-pub fn refuse(x: Refusal, lent: &[u8]) {
-    let buffer = x.buffer;
-    tell_refusal(x, file(lent, buffer));
+pub fn refuse(x: Refusal, lent: &Slots) {
+    tell_refusal(x, lent.file(x.buffer));
 }
 
 // Saves what was written, or tells the refusal.
-pub fn keep_written<R: Env + Files>(rt: &R, told: Written, lent: &[u8], at: usize, out: &[u8]) {
+pub fn keep_written<R: Env + Files>(
+    rt: &R,
+    told: Result<usize, Refusal>,
+    lent: &Slots,
+    at: usize,
+    out: &[u8],
+) {
     match told {
-        Written::Refused(x) => refuse(x, lent),
-        Written::Wrote(count) => save(rt, at, front(out, count)),
+        Err(x) => refuse(x, lent),
+        Ok(count) => save(rt, at, front(out, count)),
     }
 }

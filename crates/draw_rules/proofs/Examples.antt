@@ -5,7 +5,7 @@ use mathlib.Core.List.{[], ◌∷◌}
 use Rattle.refusals.specs.Number.{SHAPE, ROOM, DRAW}
 use Rattle.refusals.specs.Buffer.{NONE, RANDOM, OUTPUT}
 use Rattle.refusals.specs.Told.{done, refused}
-use Rattle.random.specs.declared.draw.Used.TheVariants.{To, RanOut}
+use Rattle.std.specs.Prelude.{Some, None}
 use Rattle.algebra.specs.Lists.{tab}
 use Rattle.algebra.specs.Permutations.{identity}
 use Rattle.random.specs.Drawings.{draw_left, draw_below, drew, ran_out, exchange, shuffle, draw_permutation}
@@ -35,10 +35,10 @@ unfolding draw_choices draw_choice many_times one_below draw_below draw_left dra
 choices = (refl, refl)
 
 -- numbers, then ROOM with the whole need, then DRAW with the bytes lent
-orders : (telling (bare false) 8 7 RanOut 5 ≡ refused SHAPE NONE 0)
-    × (telling (bare true) 8 7 RanOut 5 ≡ refused ROOM OUTPUT 8)
-    × (telling (bare true) 8 8 RanOut 5 ≡ refused DRAW RANDOM 5)
-    × (telling (bare true) 8 9 (To 5) 5 ≡ done (5 ∷ []))
+orders : (telling (bare false) 8 7 None 5 ≡ refused SHAPE NONE 0)
+    × (telling (bare true) 8 7 None 5 ≡ refused ROOM OUTPUT 8)
+    × (telling (bare true) 8 8 None 5 ≡ refused DRAW RANDOM 5)
+    × (telling (bare true) 8 9 (Some 5) 5 ≡ done (5 ∷ []))
     × (choices_fit 64 2 64 ≡ true)
     × (choices_fit 64 1 64 ≡ false)
     × (choices_fit 64 2 65 ≡ false)

@@ -1,22 +1,22 @@
 -- Laws of what each call draws, as the code that writes it needs them.
-use mathlib.Core.Path.{◌≡◌, refl, ◌∙◌}
 use mathlib.Core.Bool.{true}
+use Prim.Native.Nat.{◌≤◌, ℕ, ◌<◌}
+use Rattle.algebra.specs.Permutations.{longest}
+use Rattle.algebra.proofs.Lists.{&&-left, &&-right}
+use Rattle.kinds.specs.Kinds.{limits, within, alone}
+use Rattle.frames.proofs.Facts.{within-told}
+use Rattle.draw_rules.specs.Telling.{choices_fit}
+use mathlib.Core.Path.{◌≡◌, refl, ◌∙◌}
 use mathlib.Core.List.{List, ◌++◌}
-use Prim.Native.Nat.{ℕ, ◌≤◌, ◌<◌}
 use native.Mathlib.Omega.{arith}
 use lib.ListN.{length, length-append}
 use Rattle.algebra.specs.Residues.{modulus, Residues}
-use Rattle.algebra.specs.Permutations.{longest}
 use Rattle.random.specs.Drawings.{Drawing, drew, ran_out, draw_permutation}
-use Rattle.algebra.proofs.Lists.{&&-left, &&-right}
 use Rattle.random.proofs.Drawings.{Permutes, drawn-perm}
-use Rattle.kinds.specs.Kinds.{limits, within, alone}
-use Rattle.frames.proofs.Facts.{within-told}
 use Rattle.readers.specs.Choosing.{choice_size}
 use Rattle.readers.proofs.Passing.{Chosen}
 use Rattle.random.specs.Sequences.{made, and_then, draw_residues}
 use Rattle.draw_rules.specs.Making.{draw_choice}
-use Rattle.draw_rules.specs.Telling.{choices_fit}
 use Rattle.random.proofs.Sequences.{Always, some_below_lem}
 
 -- the choices of one round are R and then σ

@@ -3,11 +3,11 @@
 
 use crate::mark::show_place;
 use crate::values::{say_bits, say_digests, say_rows};
-use algebra::wide;
-use frames::read::Read;
+use frames::read::Frame;
 use hosting::bytes::{behind, byte_of};
 use hosting::text::{say, say_with};
-use readers::by_number::read_kind;
+use kinds::{Kind, UnknownKind};
+use readers::read;
 use refusal_words::tell_refusal;
 use refusals::Refusal;
 
@@ -19,9 +19,7 @@ fn show_system(n: usize, m: usize, entries: &[u8]) {
     say_with(b"kind 1, a system: n ", n);
     say_with(b", m ", m);
     say(b"\n");
-    if m < n {
-        say_rows(b"row", n - m, entries);
-    }
+    say_rows(b"row", n.saturating_sub(m), entries);
 }
 
 // A vector or a permutation for each round.
@@ -30,18 +28,14 @@ fn show_rounds(name: &[u8], n: usize, rounds: usize, rest: &[u8]) {
     say_with(b": n ", n);
     say_with(b", N ", rounds);
     say(b"\n");
-    if 0 < n {
-        say_rows(b"round", n, rest);
-    }
+    say_rows(b"round", n, rest);
 }
 
 // One number, and as many values.
 fn show_row(name: &[u8], label: &[u8], count: usize, rest: &[u8]) {
     say_with(name, count);
     say(b"\n");
-    if 0 < count {
-        say_rows(label, count, rest);
-    }
+    say_rows(label, count, rest);
 }
 
 fn show_commitments(rounds: usize, rest: &[u8]) {
@@ -56,16 +50,16 @@ fn show_bits(rounds: usize, rest: &[u8]) {
     say_bits(rounds, rest);
 }
 
-fn show_values(kind: u8, first: usize, second: usize, rest: &[u8]) {
+fn show_values(kind: Kind, first: usize, second: usize, rest: &[u8]) {
     match kind {
-        1 => show_system(first, second, rest),
-        2 => show_row(b"kind 2, a public key: n ", b"V", first, rest),
-        3 => show_row(b"kind 3, a secret key: n ", b"pi", first, rest),
-        4 => show_commitments(first, rest),
-        5 => show_row(b"kind 5, challenges: N ", b"c", first, rest),
-        6 => show_rounds(b"kind 6, first answers", first, second, rest),
-        7 => show_bits(first, rest),
-        _ => show_rounds(b"kind 8, openings", first, second, rest),
+        Kind::System => show_system(first, second, rest),
+        Kind::Public => show_row(b"kind 2, a public key: n ", b"V", first, rest),
+        Kind::Secret => show_row(b"kind 3, a secret key: n ", b"pi", first, rest),
+        Kind::Commitments => show_commitments(first, rest),
+        Kind::Challenges => show_row(b"kind 5, challenges: N ", b"c", first, rest),
+        Kind::Answers => show_rounds(b"kind 6, first answers", first, second, rest),
+        Kind::Bits => show_bits(first, rest),
+        Kind::Openings => show_rounds(b"kind 8, openings", first, second, rest),
     }
 }
 
@@ -74,10 +68,16 @@ fn show_refused(x: Refusal, frame: &[u8]) {
     tell_refusal(x, frame);
 }
 
-fn show_as(kind: u8, frame: &[u8]) {
-    match read_kind(kind, frame) {
-        Read::Refused(x) => show_refused(x, frame),
-        Read::Frame(first, second, start) => {
+fn show_as(kind: Kind, frame: &[u8]) {
+    match read(kind, frame) {
+        Err(x) => show_refused(x, frame),
+        Ok(
+            Frame {
+                first,
+                second,
+                start,
+            },
+        ) => {
             show_values(kind, first, second, behind(frame, start));
             say(b"done\n");
         }
@@ -86,12 +86,12 @@ fn show_as(kind: u8, frame: &[u8]) {
 
 // A file whose kind is none of 1 to 8 is read as a system.
 pub fn show(frame: &[u8]) {
-    let kind = byte_of(frame, 3);
-    if 1 <= kind && kind <= 8 {
-        show_as(kind, frame);
-        return;
+    match Kind::try_from(byte_of(frame, 3)) {
+        Ok(kind) => show_as(kind, frame),
+        Err(UnknownKind(number)) => {
+            say_with(b"kind ", usize::from(number));
+            say(b" is none of 1 to 8; read as a system:\n");
+            show_as(Kind::System, frame);
+        }
     }
-    say_with(b"kind ", wide(kind));
-    say(b" is none of 1 to 8; read as a system:\n");
-    show_as(1, frame);
 }

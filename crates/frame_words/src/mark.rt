@@ -18,12 +18,10 @@ fn say_byte(x: u8, marked: bool) {
 // The row of bytes that has the place, which stands in brackets.
 pub fn show_place(bytes: &[u8], place: usize) {
     let start = place - place % ROW;
-    let mut i: usize = start;
     say_with(b"  from place ", start);
     say(b":");
-    while i < bytes.len() && i - start < ROW {
-        say_byte(bytes[i], i == place);
-        i += 1;
+    for (i, x) in bytes.iter().enumerate().skip(start).take(ROW) {
+        say_byte(*x, i == place);
     }
     say(b"\n");
 }

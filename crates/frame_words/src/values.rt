@@ -1,7 +1,5 @@
 // The values of a frame in rows.
-ghost use Rattle.std.specs.Prelude.{◌<◌};
-
-use algebra::wide;
+use hosting::bytes::{behind, front};
 use hosting::text::{say, say_hex, say_with};
 use kinds::PAIR;
 use packed_bits::bit_at;
@@ -14,7 +12,7 @@ fn say_value(x: u8) {
     } else if x < 100 {
         say(b" ");
     }
-    say_with(b" ", wide(x));
+    say_with(b" ", usize::from(x));
 }
 
 // The head of a row; the only row of a frame has no number.
@@ -27,62 +25,49 @@ fn start_row(label: &[u8], row: usize, only: bool) {
     say(b":");
 }
 
-// Rows of `width` values.
-pub fn say_rows(label: &[u8], width: usize, bytes: &[u8])
-    requires { 0 < width }
-{
+// Rows of `width` values; none where that is 0.
+pub fn say_rows(label: &[u8], width: usize, bytes: &[u8]) {
+    if width == 0 {
+        return;
+    }
     let only = bytes.len() <= width;
-    let mut i: usize = 0;
-    while i < bytes.len() {
-        if i % width == 0 {
-            start_row(label, i / width, only);
+    for (row, values) in bytes.chunks(width).enumerate() {
+        start_row(label, row, only);
+        for x in values {
+            say_value(*x);
         }
-        say_value(bytes[i]);
-        if i % width == width - 1 {
-            say(b"\n");
-        }
-        i += 1;
+        say(b"\n");
     }
 }
 
-// What stands before byte i of the commitments.
-fn start_digest(i: usize) {
-    if i % PAIR == 0 {
-        say_with(b"  round ", i / PAIR);
-        say(b": C0 ");
-    }
-    if i % PAIR == DIGEST {
-        say(b" C1 ");
+fn say_digest(bytes: &[u8]) {
+    for x in bytes {
+        say_hex(*x);
     }
 }
 
 // A row for each round.
 pub fn say_digests(bytes: &[u8]) {
-    let mut i: usize = 0;
-    while i < bytes.len() {
-        start_digest(i);
-        say_hex(bytes[i]);
-        if i % PAIR == PAIR - 1 {
-            say(b"\n");
-        }
-        i += 1;
+    for (round, pair) in bytes.chunks(PAIR).enumerate() {
+        say_with(b"  round ", round);
+        say(b": C0 ");
+        say_digest(front(pair, DIGEST));
+        say(b" C1 ");
+        say_digest(behind(pair, DIGEST));
+        say(b"\n");
     }
 }
 
+// Bit k; 0 where there is none.
 fn bit_of(bytes: &[u8], k: usize) -> u8 {
-    if bytes.len() <= k / 8 {
-        return 0;
-    }
-    bit_at(bytes, k) as u8
+    u8::from(k / 8 < bytes.len() && bit_at(bytes, k))
 }
 
 // N bits as one row.
 pub fn say_bits(rounds: usize, bytes: &[u8]) {
     say(b"  bits:");
-    let mut k: usize = 0;
-    while k < rounds {
+    for k in 0..rounds {
         say_value(bit_of(bytes, k));
-        k += 1;
     }
     say(b"\n");
 }

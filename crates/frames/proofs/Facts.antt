@@ -1,4 +1,7 @@
 -- What a check that refuses nothing says, as plain facts.
+use Rattle.frames.specs.declared.read.Frame.{Frame}
+use Rattle.refusals.specs.declared.Refusal.{Refusal}
+use Rattle.std.specs.Prelude.{Result, Ok}
 use mathlib.Core.Path.{◌≡◌, refl, sym, ap, ◌∙◌}
 use mathlib.Core.Bool.{Bool, true}
 use mathlib.Core.List.{List, [], ◌∷◌}
@@ -17,8 +20,6 @@ use Rattle.kinds.specs.declared.Kind.{Kind}
 use Rattle.kinds.specs.declared.Kind.TheVariants.{System, Public, Secret, Commitments, Challenges, Answers, Bits, Openings}
 use Rattle.kinds.specs.declared.Limits.{Limits}
 use Rattle.kinds.specs.declared.Expected.{Expected}
-use Rattle.frames.specs.declared.read.Read.{Read}
-use Rattle.frames.specs.declared.read.Read.TheVariants.{Frame}
 use Rattle.kinds.specs.Kinds.{limits, within, alone, Modest, table, fits}
 use Rattle.bodies.specs.Bodies.{spare_clear, content}
 use Rattle.frames.specs.Reading.{count_of, header, first_of, second_of, rest_of, shape, reading, read_means, Reads}
@@ -199,8 +200,8 @@ refit k e d s f t =
     record { head = f.head; form = record { there = g.there; numbers = t; whole = g.whole; spare = g.spare }; content = f.content }
 
 -- what a reader's answer says
-pub frame-fits : (k : Kind) (e : Expected) (s : List ℕ) (r : Read) (x y z : ℕ) → Reads k e s r → r ≡ Frame x y z → FrameFits k e s
-frame-fits k e s r x y z m q = (reading-told k e s _ (sym m.says ∙ ap read_means q)).0
+pub frame-fits : (k : Kind) (e : Expected) (s : List ℕ) (r : Result Frame Refusal) (f : Frame) → Reads k e s r → r ≡ Ok f → FrameFits k e s
+frame-fits k e s r f m q = (reading-told k e s _ (sym m.says ∙ ap read_means q)).0
 
 -- ---- the numbers of a frame of which one is asked
 

@@ -1,5 +1,5 @@
 -- Laws of the orders of refusals, an answer each, as the code finds them.
-use mathlib.Core.Path.{◌≡◌, sym, ap, ◌∙◌}
+use mathlib.Core.Path.{◌≡◌, ap, ◌∙◌}
 use mathlib.Core.Bool.{Bool, true, false}
 use mathlib.Core.List.{List, [], ◌∷◌}
 use Prim.Native.Nat.{ℕ, ◌+◌, ◌-◌, ◌≤◌, ◌<◌}
@@ -7,13 +7,14 @@ use native.Mathlib.Omega.{arith}
 use borrow.Author.Tests.{lt-leb, le-leb, eq-eqb, ne_eqb}
 use lib.ListN.{length, get_or, take, drop, length-drop}
 use lib.Seq.{take_all}
-use Rattle.refusals.specs.declared.Refusal.{Refusal}
 use Rattle.refusals.specs.Number.{SHORT, LONG, VERSION, KIND}
 use Rattle.refusals.specs.Told.{Told, done, refused, fine, told, first}
+use Rattle.refusals.proofs.Chain.{past, ends}
+use Rattle.refusals.specs.declared.Refusal.{Refusal}
+use Rattle.frames.specs.declared.read.Frame.{Frame}
+use Rattle.std.specs.Prelude.{Result, Ok, Err}
 use Rattle.kinds.specs.declared.Kind.{Kind}
 use Rattle.kinds.specs.declared.Expected.{Expected}
-use Rattle.frames.specs.declared.read.Read.{Read}
-use Rattle.frames.specs.declared.read.Read.TheVariants.{Frame, Refused}
 use Rattle.kinds.specs.Kinds.{table, fits}
 use Rattle.bodies.specs.Bodies.{spare_clear, content}
 use Rattle.frames.specs.Reading.{count_of, header, first_of, second_of, rest_of, shape, read_means}
@@ -58,11 +59,11 @@ module _ (k : Kind) (s : List ℕ) (b : ℕ) (e : b ≡ (table k).buffer) where
 
 -- ---- links of a chain that are frames: `r` is a reader's answer and `a` what it has to mean
 
-pub frame_goes_on : {r : Read} {a b c : Told} {x y z : ℕ} → read_means r ≡ a → r ≡ Frame x y z → c ≡ b → c ≡ first a b
-frame_goes_on {b = b} m e n = n ∙ ap (λ (t : Told). first t b) (sym (ap read_means e) ∙ m)
+pub frame_goes_on : {r : Result Frame Refusal} {a b c : Told} {f : Frame} → read_means r ≡ a → r ≡ Ok f → c ≡ b → c ≡ first a b
+frame_goes_on = past (λ f. f.first ∷ f.second ∷ f.start ∷ [])
 
-pub frame-stops : (b : Told) {r : Read} {a : Told} {x : Refusal} → read_means r ≡ a → r ≡ Refused x → told x ≡ first a b
-frame-stops b m e = ap (λ (t : Told). first t b) (sym (ap read_means e) ∙ m)
+pub frame-stops : (b : Told) {r : Result Frame Refusal} {a : Told} {x : Refusal} → read_means r ≡ a → r ≡ Err x → told x ≡ first a b
+frame-stops = ends (λ f. f.first ∷ f.second ∷ f.start ∷ [])
 
 -- ---- SHAPE; a and b are the numbers
 

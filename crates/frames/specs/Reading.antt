@@ -1,14 +1,14 @@
 -- What a reader tells: the header, then SHAPE, then the bytes in order (document 01, "Frames" and "Refusal numbers").
-use Rattle.std.specs.Prelude.{◌≡◌, Bool, cond, ◌&&◌, List, [], ◌∷◌, ℕ, ◌+◌, ◌*◌, leb, ltb, eqb, length, get_or, drop}
+use Rattle.frames.specs.declared.read.Frame.{Frame}
+use Rattle.refusals.specs.declared.Refusal.{Refusal}
+use Rattle.std.specs.Prelude.{◌≡◌, Bool, cond, ◌&&◌, List, [], ◌∷◌, ℕ, ◌+◌, ◌*◌, leb, ltb, eqb, length, get_or, drop, Result}
 use Rattle.refusals.specs.Number.{SHORT, LONG, VERSION, KIND, SHAPE}
 use Rattle.refusals.specs.Buffer.{NONE}
-use Rattle.refusals.specs.Told.{Told, done, refused, told, first, demand}
+use Rattle.refusals.specs.Told.{Told, done, refused, outcome, first, demand}
 use Rattle.algebra.specs.Lists.{stretch}
 use Rattle.kinds.specs.declared.Kind.{Kind}
 use Rattle.kinds.specs.declared.Kind.TheVariants.{Openings}
 use Rattle.kinds.specs.declared.Expected.{Expected}
-use Rattle.frames.specs.declared.read.Read.{Read}
-use Rattle.frames.specs.declared.read.Read.TheVariants.{Frame, Refused}
 use Rattle.kinds.specs.Kinds.{table, fits, alone}
 use Rattle.bodies.specs.Bodies.{spare_clear, content}
 
@@ -51,12 +51,11 @@ reading k e s =
     (done (first_of s ∷ second_of k s ∷ (table k).start ∷ []))))
 
 -- what a reader's answer means
-abbrev pub read_means : Read → Told
-read_means (Frame a b start) = done (a ∷ b ∷ start ∷ [])
-read_means (Refused r) = told r
+abbrev pub read_means : Result Frame Refusal → Told
+read_means = outcome (λ f. f.first ∷ f.second ∷ f.start ∷ [])
 
 -- what a reader promises; it writes nothing
-pub record Reads (k : Kind) (e : Expected) (s : List ℕ) (answer : Read) : Type 0 where
+pub record Reads (k : Kind) (e : Expected) (s : List ℕ) (answer : Result Frame Refusal) : Type 0 where
   pub says : read_means answer ≡ reading k e s
 
 -- ---- the opening of a named round

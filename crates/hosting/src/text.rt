@@ -1,5 +1,4 @@
 // The parts of a line.
-use algebra::wide;
 
 // Standard output.
 pub const STDOUT: i32 = 1;
@@ -13,7 +12,7 @@ pub fn say_number(x: usize) {
 }
 
 pub fn say_hex(x: u8) {
-    io::print_hex(STDOUT, wide(x) as u64, 2);
+    io::print_hex(STDOUT, u64::from(x), 2);
 }
 
 // The words and then the number.
@@ -22,21 +21,18 @@ pub fn say_with(words: &[u8], x: usize) {
     say_number(x);
 }
 
-fn say_ending(x: usize) {
-    if x / 10 % 10 == 1 {
-        say(b"th");
-        return;
-    }
-    match x % 10 {
-        1 => say(b"st"),
-        2 => say(b"nd"),
-        3 => say(b"rd"),
-        _ => say(b"th"),
+// What makes an ordinal of a number: 1st, 2nd, 3rd, 4th, .. 11th, .. 21st, ..
+fn ordinal_ending(x: usize) -> &'static [u8] {
+    match (x / 10 % 10, x % 10) {
+        (1, _) => b"th",
+        (_, 1) => b"st",
+        (_, 2) => b"nd",
+        (_, 3) => b"rd",
+        _ => b"th",
     }
 }
 
-// 1st, 2nd, 3rd, 4th ..
 pub fn say_ordinal(x: usize) {
     say_number(x);
-    say_ending(x);
+    say(ordinal_ending(x));
 }

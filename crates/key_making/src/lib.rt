@@ -5,7 +5,6 @@ ghost use Rattle.std.specs.Prelude.{◌≡◌, ◌++◌, ◌≤◌, length, take
 ghost use Rattle.refusals.specs.Told.{fine};
 ghost use Rattle.algebra.specs.Lists.{over};
 ghost use Rattle.algebra.specs.Permutations.{longest};
-ghost use Rattle.matrices.specs.Matrices.{SystemFits};
 ghost use Rattle.random.specs.Drawings.{used_by, drawn_over, Enough};
 ghost use Rattle.kinds.specs.Kinds.{alone};
 ghost use Rattle.frames.specs.Reading.{first_of, reading};
@@ -16,94 +15,72 @@ ghost use Rattle.draw_rules.specs.Telling.{Draws};
 
 use algebra::permutation::unpermute_into;
 use algebra::{LONGEST, MODULUS};
-use draw::{frame_size, refuse};
-use draw_rules::Taken;
-use frames::read::Read;
+use draw::frame_size;
 use kinds::Kind;
-use matrices::complete;
-use random::draw::{Used, measure_permutation, write_permutation};
+use matrices::Matrix;
+use random::draw::{measure_permutation, write_permutation};
 use random::sequence::{measure_below, write_below};
-use readers::read_system;
-use refusals::buffer::{OUTPUT, RANDOM};
-use refusals::number::{DRAW, ROOM};
+use readers::{matrix_of, read};
+use refusals::{Buffer, Reason, Refusal, refuse};
 use writers::put_frame;
 
 // Makes a key for the system: kind 2 and then kind 3.
-pub fn make_key(system: &[u8], random: &[u8], out: &mut [u8]) -> Taken
+pub fn make_key(system: &[u8], random: &[u8], out: &mut [u8]) -> Result<usize, Refusal>
     ensures { Draws (reading Kind.System alone system.now) (key_size (first_of system.now)) (draw_key_for system.now random.now) random.now out.old result out.new }
 {
-    match read_system(system) {
-        Read::Refused(x) => Taken::Refused(x),
-        Read::Frame(n, m, start) => draw_key(&system[start..], n, m, random, out),
-    }
+    read(Kind::System, system)?;
+    let a = matrix_of(system);
+    draw_key(&a, random, out)
 }
 
 // Makes a key for a matrix.
-fn draw_key(a: &[u8], n: usize, m: usize, random: &[u8], out: &mut [u8]) -> Taken
-    requires { SystemFits a.now n m }
-    ensures { Draws fine (key_size n) (draw_key a.now n m random.now) random.now out.old result out.new }
+fn draw_key(a: &Matrix, random: &[u8], out: &mut [u8]) -> Result<usize, Refusal>
+    ensures { Draws fine (key_size a.now.n) (draw_key a.now.entries.now a.now.n a.now.m random.now) random.now out.old result out.new }
 {
-    let need = frame_size(Kind::Public, n) + frame_size(Kind::Secret, n);
+    let need = frame_size(Kind::Public, a.n) + frame_size(Kind::Secret, a.n);
     if out.len() < need {
-        return refuse(ROOM, OUTPUT, need);
+        return refuse(Reason::Room, Buffer::Output, need);
     }
-    match measure_pair(n, m, random) {
-        Used::RanOut => refuse(DRAW, RANDOM, random.len()),
-        Used::To(used) => {
-            write_key(a, n, m, random, out);
-            Taken::Bytes(used)
+    match measure_pair(a.n, a.m, random) {
+        None => refuse(Reason::Draw, Buffer::Random, random.len()),
+        Some(used) => {
+            write_key(a, random, out);
+            Ok(used)
         }
     }
 }
 
 // How far pi and the start of X take: nothing is written.
-fn measure_pair(n: usize, m: usize, random: &[u8]) -> Used
+fn measure_pair(n: usize, m: usize, random: &[u8]) -> Option<usize>
     requires { (m ≤ n) × (n ≤ longest) }
     ensures { result ≡ used_by (draw_pair n m random.now) }
 {
-    match measure_permutation(random, 0, n) {
-        Used::RanOut => Used::RanOut,
-        Used::To(p) => measure_below(MODULUS, n - m, random, p),
-    }
+    let p = measure_permutation(random, 0, n)?;
+    measure_below(MODULUS, n - m, random, p)
 }
 
 // Writes a key, for which the bytes suffice.
-fn write_key(a: &[u8], n: usize, m: usize, random: &[u8], out: &mut [u8])
-    requires { SystemFits a.now n m × Enough (draw_pair n m random.now) × (key_size n ≤ length out.old) }
-    ensures { out.new ≡ drawn_over (draw_key a.now n m random.now) out.old }
+fn write_key(a: &Matrix, random: &[u8], out: &mut [u8])
+    requires { Enough (draw_pair a.now.n a.now.m random.now) × (key_size a.now.n ≤ length out.old) }
+    ensures { out.new ≡ drawn_over (draw_key a.now.entries.now a.now.n a.now.m random.now) out.old }
 {
+    let n = a.n;
     let mut pi = [0u8; LONGEST];
-    let mut x = [0u8; LONGEST];
     let mut v = [0u8; LONGEST];
-    write_key_with(a, n, m, random, out, &mut pi, &mut x, &mut v);
-}
-
-// As write_key, with room for pi, X and V.
-fn write_key_with(
-    a: &[u8],
-    n: usize,
-    m: usize,
-    random: &[u8],
-    out: &mut [u8],
-    pi: &mut [u8],
-    x: &mut [u8],
-    v: &mut [u8],
-)
-    requires { SystemFits a.now n m × Enough (draw_pair n m random.now) × (key_size n ≤ length out.old) × (longest ≤ length pi.old) × (longest ≤ length x.old) × (longest ≤ length v.old) }
-    ensures { out.new ≡ drawn_over (draw_key a.now n m random.now) out.old }
-{
-    form_key(a, n, m, random, pi, x, v);
+    form_key(a, random, &mut pi, &mut v);
     put_key(n, &v[..n], &pi[..n], out);
 }
 
 // Forms pi and V in their rooms.
-fn form_key(a: &[u8], n: usize, m: usize, random: &[u8], pi: &mut [u8], x: &mut [u8], v: &mut [u8])
-    requires { SystemFits a.now n m × Enough (draw_pair n m random.now) × (longest ≤ length pi.old) × (longest ≤ length x.old) × (longest ≤ length v.old) }
-    ensures { (pi.new ≡ over (take n (list_of (draw_pair n m random.now))) pi.old) × (v.new ≡ over (public_key a.now n m (take n (list_of (draw_pair n m random.now))) (drop n (list_of (draw_pair n m random.now)))) v.old) }
+fn form_key(a: &Matrix, random: &[u8], pi: &mut [u8], v: &mut [u8])
+    requires { Enough (draw_pair a.now.n a.now.m random.now) × (longest ≤ length pi.old) × (longest ≤ length v.old) }
+    ensures { (pi.new ≡ over (take a.now.n (list_of (draw_pair a.now.n a.now.m random.now))) pi.old) × (v.new ≡ over (public_key a.now.entries.now a.now.n a.now.m (take a.now.n (list_of (draw_pair a.now.n a.now.m random.now))) (drop a.now.n (list_of (draw_pair a.now.n a.now.m random.now)))) v.old) }
 {
+    let n = a.n;
+    let mut x = [0u8; LONGEST];
     let p = write_permutation(random, 0, n, pi);
-    write_below(MODULUS, n - m, random, p, x);
-    complete(a, n, m, x);
+    write_below(MODULUS, n - a.m, random, p, &mut x);
+    a.complete(&mut x);
     unpermute_into(&x[..n], &pi[..n], v);
 }
 

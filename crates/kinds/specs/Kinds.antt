@@ -1,9 +1,10 @@
 -- The table of kinds (document 01, "Frames" and "The numbers").
-use Rattle.std.specs.Prelude.{Bool, ◌&&◌, ℕ, ◌+◌, ◌-◌, ◌*◌, ◌/◌, ◌≤◌, leb}
+use Rattle.std.specs.Prelude.{◌≡◌, ◌⊎◌, Bool, ◌&&◌, ℕ, ◌+◌, ◌-◌, ◌*◌, ◌/◌, ◌≤◌, ◌<◌, leb, Result, MatchResult}
 use Rattle.refusals.specs.Buffer.{SYSTEM, PUBLIC, SECRET, COMMITMENTS, CHALLENGES, ANSWERS, BITS, OPENINGS}
 use Rattle.algebra.specs.Permutations.{longest}
 use Rattle.kinds.specs.declared.Kind.{Kind}
 use Rattle.kinds.specs.declared.Kind.TheVariants.{System, Public, Secret, Commitments, Challenges, Answers, Bits, Openings}
+use Rattle.kinds.specs.declared.UnknownKind.{UnknownKind}
 use Rattle.kinds.specs.declared.Limits.{Limits}
 use Rattle.kinds.specs.declared.Expected.{Expected}
 
@@ -85,3 +86,7 @@ fits k e a b = within ((table k).first e) a && within ((table k).second e a) b
 -- the bytes of a frame with the numbers a and b
 abbrev pub frame_size : Kind → ℕ → ℕ → ℕ
 frame_size k a b = (table k).start + (table k).size a b
+
+-- the result is the kind of this number, or an error with a number that is no kind's
+abbrev pub Numbers : ℕ → Result Kind UnknownKind → Type 0
+Numbers number r = MatchResult r (λ k. (table k).number ≡ number) (λ e. (e.0 ≡ number) × ∥ (number ≡ 0) ⊎ (8 < number) ∥₁)

@@ -2,22 +2,28 @@
 #![tactic(auto)]
 
 ghost use Rattle.std.specs.Prelude.{◌≡◌, ◌-◌, ◌*◌, ◌≤◌, ◌<◌};
-ghost use Rattle.kinds.specs.Kinds.{limits, alone, of_places, exactly, within, table, fits};
+ghost use Rattle.refusals.specs.Buffer.{buffer_number};
+ghost use Rattle.kinds.specs.Kinds.{limits, alone, of_places, exactly, within, table, fits, Numbers};
 
 use algebra::LONGEST;
-use refusals::buffer::{ANSWERS, BITS, CHALLENGES, COMMITMENTS, OPENINGS, PUBLIC, SECRET, SYSTEM};
+use refusals::Buffer;
 
-#[derive(Clone, Copy)]
+// A kind by document 01's number.
+#[derive(Clone, Copy, PartialEq, Eq)]
 pub enum Kind {
-    System,
-    Public,
-    Secret,
-    Commitments,
-    Challenges,
-    Answers,
-    Bits,
-    Openings,
+    System = 1,
+    Public = 2,
+    Secret = 3,
+    Commitments = 4,
+    Challenges = 5,
+    Answers = 6,
+    Bits = 7,
+    Openings = 8,
 }
+
+// A number that is no kind's.
+#[derive(Clone, Copy, PartialEq, Eq)]
+pub struct UnknownKind(pub u8);
 
 // Where the numbers of a body stand in a frame.
 pub const FIRST_NUMBER: usize = 4;
@@ -49,208 +55,177 @@ pub struct Expected {
     pub rounds: Limits,
 }
 
-// What is asked of a frame alone: the limits of document 01.
-pub fn alone() -> Expected
-    ensures { result ≡ alone }
-{
-    Expected {
-        places: Limits {
-            least: 2,
-            greatest: LONGEST,
-        },
-        rounds: Limits {
-            least: 1,
-            greatest: MOST_ROUNDS,
-        },
+impl Limits {
+    fn new(least: usize, greatest: usize) -> Limits
+        ensures { result ≡ limits least greatest }
+    {
+        Limits { least, greatest }
+    }
+
+    // This number and no other.
+    fn only(x: usize) -> Limits
+        ensures { result ≡ limits x x }
+    {
+        Limits::new(x, x)
+    }
+
+    pub fn contains(self, x: usize) -> bool
+        ensures { result ≡ within self x }
+    {
+        self.least <= x && x <= self.greatest
     }
 }
 
-// What is asked inside a call once n is known.
-pub fn of_places(n: usize) -> Expected
-    ensures { result ≡ of_places n }
-{
-    Expected {
-        places: Limits {
-            least: n,
-            greatest: n,
-        },
-        rounds: Limits {
-            least: 1,
-            greatest: MOST_ROUNDS,
-        },
+impl Expected {
+    // What is asked of a frame alone: the limits of document 01.
+    pub fn alone() -> Expected
+        ensures { result ≡ alone }
+    {
+        Expected {
+            places: Limits::new(2, LONGEST),
+            rounds: Limits::new(1, MOST_ROUNDS),
+        }
+    }
+
+    // What is asked inside a call once n is known.
+    pub fn of_places(n: usize) -> Expected
+        ensures { result ≡ of_places n }
+    {
+        Expected {
+            places: Limits::only(n),
+            rounds: Limits::new(1, MOST_ROUNDS),
+        }
+    }
+
+    // The same once N is known too.
+    pub fn exactly(n: usize, rounds: usize) -> Expected
+        ensures { result ≡ exactly n rounds }
+    {
+        Expected {
+            places: Limits::only(n),
+            rounds: Limits::only(rounds),
+        }
     }
 }
 
-// The same once N is known too.
-pub fn exactly(n: usize, rounds: usize) -> Expected
-    ensures { result ≡ exactly n rounds }
-{
-    Expected {
-        places: Limits {
-            least: n,
-            greatest: n,
-        },
-        rounds: Limits {
-            least: rounds,
-            greatest: rounds,
-        },
+impl TryFrom<u8> for Kind {
+    type Error = UnknownKind;
+
+    ghost try_from_gives = { Numbers };
+
+    fn try_from(number: u8) -> Result<Self, UnknownKind> {
+        match number {
+            1 => Ok(Kind::System),
+            2 => Ok(Kind::Public),
+            3 => Ok(Kind::Secret),
+            4 => Ok(Kind::Commitments),
+            5 => Ok(Kind::Challenges),
+            6 => Ok(Kind::Answers),
+            7 => Ok(Kind::Bits),
+            8 => Ok(Kind::Openings),
+            _ => Err(UnknownKind(number)),
+        }
     }
 }
 
-pub fn number_of(kind: Kind) -> u8
-    ensures { result ≡ (table kind).number }
-{
-    match kind {
-        Kind::System => 1,
-        Kind::Public => 2,
-        Kind::Secret => 3,
-        Kind::Commitments => 4,
-        Kind::Challenges => 5,
-        Kind::Answers => 6,
-        Kind::Bits => 7,
-        Kind::Openings => 8,
+impl Kind {
+    pub fn number(self) -> u8
+        ensures { result ≡ (table self).number }
+    {
+        self as u8
+    }
+
+    pub fn version(self) -> u8
+        ensures { result ≡ (table self).version }
+    {
+        match self {
+            Kind::System
+            | Kind::Public
+            | Kind::Secret
+            | Kind::Commitments
+            | Kind::Challenges
+            | Kind::Answers
+            | Kind::Bits
+            | Kind::Openings => 1,
+        }
+    }
+
+    pub fn buffer(self) -> Buffer
+        ensures { buffer_number result ≡ (table self).buffer }
+    {
+        match self {
+            Kind::System => Buffer::System,
+            Kind::Public => Buffer::Public,
+            Kind::Secret => Buffer::Secret,
+            Kind::Commitments => Buffer::Commitments,
+            Kind::Challenges => Buffer::Challenges,
+            Kind::Answers => Buffer::Answers,
+            Kind::Bits => Buffer::Bits,
+            Kind::Openings => Buffer::Openings,
+        }
+    }
+
+    // Where the rest of the body starts, after one number or two.
+    pub fn start(self) -> usize
+        ensures { (result ≡ (table self).start) × (5 ≤ result) × (result ≤ 6) }
+    {
+        match self {
+            Kind::System | Kind::Answers | Kind::Openings => AFTER_TWO,
+            Kind::Public | Kind::Secret | Kind::Commitments | Kind::Challenges | Kind::Bits =>
+                AFTER_ONE,
+        }
+    }
+
+    fn first_limits(self, expected: Expected) -> Limits
+        ensures { result ≡ (table self).first expected }
+    {
+        match self {
+            Kind::System | Kind::Public | Kind::Secret | Kind::Answers | Kind::Openings => {
+                expected.places
+            }
+            Kind::Commitments | Kind::Challenges | Kind::Bits => expected.rounds,
+        }
+    }
+
+    // A number that is not there is 0.
+    fn second_limits(self, expected: Expected, first: usize) -> Limits
+        ensures { result ≡ (table self).second expected first }
+    {
+        match self {
+            Kind::System => Limits::new(1, first.saturating_sub(1)),
+            Kind::Answers | Kind::Openings => expected.rounds,
+            Kind::Public | Kind::Secret | Kind::Commitments | Kind::Challenges | Kind::Bits =>
+                Limits::only(0),
+        }
+    }
+
+    // Whether the numbers are within the limits of their kind.
+    pub fn numbers_fit(self, expected: Expected, first: usize, second: usize) -> bool
+        ensures { result ≡ fits self expected first second }
+    {
+        self.first_limits(expected).contains(first)
+            && self.second_limits(expected, first).contains(second)
+    }
+
+    // How many bytes the rest of a body has by its numbers.
+    pub fn size(self, first: usize, second: usize) -> usize
+        requires { (first < 256) × (second < 256) }
+        ensures { (result ≡ (table self).size first second) × (result < 65536) }
+    {
+        match self {
+            Kind::System => rows_size(first, second),
+            Kind::Public | Kind::Secret | Kind::Challenges => first,
+            Kind::Commitments => PAIR * first,
+            Kind::Answers | Kind::Openings => first * second,
+            Kind::Bits => (first + 7) / 8,
+        }
     }
 }
 
-pub fn version_of(kind: Kind) -> u8
-    ensures { result ≡ (table kind).version }
-{
-    match kind {
-        Kind::System => 1,
-        Kind::Public => 1,
-        Kind::Secret => 1,
-        Kind::Commitments => 1,
-        Kind::Challenges => 1,
-        Kind::Answers => 1,
-        Kind::Bits => 1,
-        Kind::Openings => 1,
-    }
-}
-
-pub fn buffer_of(kind: Kind) -> u8
-    ensures { result ≡ (table kind).buffer }
-{
-    match kind {
-        Kind::System => SYSTEM,
-        Kind::Public => PUBLIC,
-        Kind::Secret => SECRET,
-        Kind::Commitments => COMMITMENTS,
-        Kind::Challenges => CHALLENGES,
-        Kind::Answers => ANSWERS,
-        Kind::Bits => BITS,
-        Kind::Openings => OPENINGS,
-    }
-}
-
-// Where the rest of the body starts, after one number or two.
-pub fn start_of(kind: Kind) -> usize
-    ensures { (result ≡ (table kind).start) × (5 ≤ result) × (result ≤ 6) }
-{
-    match kind {
-        Kind::System => AFTER_TWO,
-        Kind::Public => AFTER_ONE,
-        Kind::Secret => AFTER_ONE,
-        Kind::Commitments => AFTER_ONE,
-        Kind::Challenges => AFTER_ONE,
-        Kind::Answers => AFTER_TWO,
-        Kind::Bits => AFTER_ONE,
-        Kind::Openings => AFTER_TWO,
-    }
-}
-
-// x - 1, and 0 for 0.
-fn before(x: usize) -> usize
-    ensures { result ≡ x - 1 }
-{
-    if x == 0 { 0 } else { x - 1 }
-}
-
-// The limits of a number that is not there.
-fn none() -> Limits
-    ensures { result ≡ limits 0 0 }
-{
-    Limits {
-        least: 0,
-        greatest: 0,
-    }
-}
-
-fn first_limits(kind: Kind, expected: Expected) -> Limits
-    ensures { result ≡ (table kind).first expected }
-{
-    match kind {
-        Kind::System => expected.places,
-        Kind::Public => expected.places,
-        Kind::Secret => expected.places,
-        Kind::Commitments => expected.rounds,
-        Kind::Challenges => expected.rounds,
-        Kind::Answers => expected.places,
-        Kind::Bits => expected.rounds,
-        Kind::Openings => expected.places,
-    }
-}
-
-fn second_limits(kind: Kind, expected: Expected, first: usize) -> Limits
-    ensures { result ≡ (table kind).second expected first }
-{
-    match kind {
-        Kind::System => Limits {
-            least: 1,
-            greatest: before(first),
-        },
-        Kind::Public => none(),
-        Kind::Secret => none(),
-        Kind::Commitments => none(),
-        Kind::Challenges => none(),
-        Kind::Answers => expected.rounds,
-        Kind::Bits => none(),
-        Kind::Openings => expected.rounds,
-    }
-}
-
-pub fn within(limits: Limits, x: usize) -> bool
-    ensures { result ≡ within limits x }
-{
-    if x < limits.least {
-        return false;
-    }
-    x <= limits.greatest
-}
-
-// Whether the numbers are within the limits of their kind.
-pub fn numbers_fit(kind: Kind, expected: Expected, first: usize, second: usize) -> bool
-    ensures { result ≡ fits kind expected first second }
-{
-    if !within(first_limits(kind, expected), first) {
-        return false;
-    }
-    within(second_limits(kind, expected, first), second)
-}
-
-// m rows of n - m.
+// m rows of n - m; none where n is less than m.
 fn rows_size(n: usize, m: usize) -> usize
     requires { (n < 256) × (m < 256) }
     ensures { (result ≡ m * (n - m)) × (result < 65536) }
 {
-    if n < m {
-        return 0;
-    }
-    m * (n - m)
-}
-
-// How many bytes the rest of a body has by its numbers.
-pub fn size_of(kind: Kind, first: usize, second: usize) -> usize
-    requires { (first < 256) × (second < 256) }
-    ensures { (result ≡ (table kind).size first second) × (result < 65536) }
-{
-    match kind {
-        Kind::System => rows_size(first, second),
-        Kind::Public => first,
-        Kind::Secret => first,
-        Kind::Commitments => PAIR * first,
-        Kind::Challenges => first,
-        Kind::Answers => first * second,
-        Kind::Bits => (first + 7) / 8,
-        Kind::Openings => first * second,
-    }
+    m * n.saturating_sub(m)
 }

@@ -1,11 +1,11 @@
 // The matrix A = [A' | I]: m rows, n columns, a the entries of A' row by row.
 #![tactic(auto)]
 
-ghost use Rattle.std.specs.Prelude.{◌≡◌, ◌+◌, ◌-◌, ◌*◌, ◌≤◌, ◌<◌, length, take};
-ghost use Rattle.algebra.specs.Lists.{over, stretch, first_from};
+ghost use Rattle.std.specs.Prelude.{◌≡◌, ◌+◌, ◌-◌, ◌≤◌, ◌<◌, length, take, unwrap_or, IfSome};
+ghost use Rattle.algebra.specs.Lists.{over, first_from};
 ghost use Rattle.algebra.specs.Residues.{modulus};
 ghost use Rattle.algebra.specs.Permutations.{longest, IsPerm};
-ghost use Rattle.matrices.specs.Matrices.{row_times, product, nonzero_row, key_fault, SystemFits};
+ghost use Rattle.matrices.specs.Matrices.{row_times, row_of, product, nonzero_row, key_fault, SystemFits};
 ghost use Rattle.matrices.specs.Solving.{completed};
 
 use algebra::permutation::permute_into;
@@ -19,83 +19,75 @@ pub fn row_times(row: &[u8], x: &[u8], i: usize) -> u8
 {
     let d = row.len();
     let mut sum: u32 = 0;
-    let mut j: usize = 0;
-    while j < d {
-        sum += row[j] as u32 * x[j] as u32;
-        j += 1;
+    for (a, y) in row.iter().zip(x) {
+        sum += u32::from(*a) * u32::from(*y);
     }
-    sum += x[d + i] as u32;
+    sum += u32::from(x[d + i]);
     (sum % MODULUS) as u8
 }
 
-// Row i of A X, where rows of A' have d entries: here alone stands where they lie.
-fn row_at(a: &[u8], d: usize, x: &[u8], i: usize) -> u8
-    requires { (d < longest) × (i < longest) × (i * d + d ≤ length a.now) × (d + i < length x.now) }
-    ensures { result ≡ row_times modulus (stretch d i a.now) x.now i }
-{
-    let start = i * d;
-    let end = start + d;
-    row_times(&a[start..end], x, i)
+// The matrix A = [A' | I] of m rows and n columns: the entries of A', row by row, n - m to a row.
+#[derive(Clone, Copy)]
+pub struct Matrix<'a> {
+    pub entries: &'a [u8],
+    pub n: usize,
+    pub m: usize,
+    pub ghost fits: { SystemFits entries.now n m },
 }
 
-// Writes A X.
-pub fn product_into(a: &[u8], n: usize, m: usize, x: &[u8], out: &mut [u8])
-    requires { SystemFits a.now n m × (length x.now ≡ n) × (m ≤ length out.old) }
-    ensures { out.new ≡ over (product modulus a.now n m x.now) out.old }
-{
-    let d = n - m;
-    let mut i: usize = 0;
-    while i < m {
-        out[i] = row_at(a, d, x, i);
-        i += 1;
+impl<'a> Matrix<'a> {
+    // Row i of A': here alone stands where it lies.
+    fn row(&self, i: usize) -> &[u8]
+        requires { i < self.now.m }
+        ensures cut { result.now ≡ row_of self.now.entries.now self.now.n self.now.m i }
+        ensures size { length result.now ≡ self.now.n - self.now.m }
+    {
+        let d = self.n - self.m;
+        let start = i * d;
+        let end = start + d;
+        &self.entries[start..end]
     }
-}
 
-// Completes X after its first n - m entries, so that A X is zero. The entry to come is 0 while its row is summed.
-pub fn complete(a: &[u8], n: usize, m: usize, x: &mut [u8])
-    requires { SystemFits a.now n m × (n ≤ length x.old) }
-    ensures { x.new ≡ over (completed modulus a.now n m (take (n - m) x.old)) x.old }
-{
-    let d = n - m;
-    let mut i: usize = 0;
-    while i < m {
-        let k = d + i;
-        x[k] = 0;
-        x[k] = negative(row_at(a, d, &x[..n], i));
-        i += 1;
-    }
-}
-
-// The first row of A X that is not zero; m where every row is.
-fn first_nonzero(a: &[u8], n: usize, m: usize, x: &[u8]) -> usize
-    requires { SystemFits a.now n m × (length x.now ≡ n) }
-    ensures { result ≡ first_from m 0 (nonzero_row modulus a.now n m x.now) }
-{
-    let d = n - m;
-    let mut i: usize = 0;
-    while i < m {
-        if row_at(a, d, x, i) != 0 {
-            return i;
+    // Writes A X.
+    pub fn product_into(&self, x: &[u8], out: &mut [u8])
+        requires { (length x.now ≡ self.now.n) × (self.now.m ≤ length out.old) }
+        ensures { out.new ≡ over (product modulus self.now.entries.now self.now.n self.now.m x.now) out.old }
+    {
+        for i in 0..self.m {
+            out[i] = row_times(self.row(i), x, i);
         }
-        i += 1;
     }
-    i
-}
 
-// As key_fault, with room for V_pi.
-fn key_fault_with(a: &[u8], n: usize, m: usize, v: &[u8], pi: &[u8], room: &mut [u8]) -> usize
-    requires { SystemFits a.now n m × IsPerm (length pi.now) pi.now × (length pi.now ≡ n) × (length v.now ≡ n) × (n ≤ length room.old) }
-    ensures { result ≡ key_fault modulus a.now n m v.now pi.now }
-{
-    permute_into(v, pi, room);
-    first_nonzero(a, n, m, &room[..n])
-}
+    // Completes X after its first n - m entries, so that A X is zero. The entry to come is 0 while its row is summed.
+    pub fn complete(&self, x: &mut [u8])
+        requires { self.now.n ≤ length x.old }
+        ensures { x.new ≡ over (completed modulus self.now.entries.now self.now.n self.now.m (take (self.now.n - self.now.m) x.old)) x.old }
+    {
+        let d = self.n - self.m;
+        for i in 0..self.m {
+            let k = d + i;
+            x[k] = 0;
+            x[k] = negative(row_times(self.row(i), &x[..self.n], i));
+        }
+    }
 
-// The first row of A V_pi that is not zero; m where every row is.
-pub fn key_fault(a: &[u8], n: usize, m: usize, v: &[u8], pi: &[u8]) -> usize
-    requires { SystemFits a.now n m × IsPerm (length pi.now) pi.now × (length pi.now ≡ n) × (length v.now ≡ n) }
-    ensures { result ≡ key_fault modulus a.now n m v.now pi.now }
-{
-    let mut room = [0u8; LONGEST];
-    key_fault_with(a, n, m, v, pi, &mut room)
+    // The first row of A X that is not zero.
+    fn first_nonzero(&self, x: &[u8]) -> Option<usize>
+        requires { length x.now ≡ self.now.n }
+        ensures fault { unwrap_or result self.now.m ≡ first_from self.now.m 0 (nonzero_row modulus self.now.entries.now self.now.n self.now.m x.now) }
+        ensures below { IfSome result (λ i. i < self.now.m) }
+    {
+        (0..self.m).find(|i| row_times(self.row(*i), x, *i) != 0)
+    }
+
+    // The first row of A V_pi that is not zero. The key pi is valid for V where there is none.
+    pub fn key_fault(&self, v: &[u8], pi: &[u8]) -> Option<usize>
+        requires { IsPerm (length pi.now) pi.now × (length pi.now ≡ self.now.n) × (length v.now ≡ self.now.n) }
+        ensures fault { unwrap_or result self.now.m ≡ key_fault modulus self.now.entries.now self.now.n self.now.m v.now pi.now }
+        ensures below { IfSome result (λ i. i < self.now.m) }
+    {
+        let mut room = [0u8; LONGEST];
+        permute_into(v, pi, &mut room);
+        self.first_nonzero(&room[..self.n])
+    }
 }

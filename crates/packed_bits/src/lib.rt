@@ -7,6 +7,7 @@ ghost use Rattle.packed_bits.specs.PackedBits.{bit_at, unused_clear};
 ghost use Rattle.packed_bits.specs.Clearing.{packed_size, clear_low, cleared};
 
 // Bit k.
+#[tactic(auto, unfolding(crate::specs::PackedBits::bit_at))]
 pub fn bit_at(bytes: &[u8], k: usize) -> bool
     requires { k / 8 < length bytes.now }
     ensures { result ≡ bit_at bytes.now k }
@@ -19,15 +20,7 @@ pub fn unused_clear(bytes: &[u8], rounds: usize) -> bool
     requires { length bytes.now < offsets }
     ensures { result ≡ unused_clear rounds bytes.now }
 {
-    let end = 8 * bytes.len();
-    let mut k = rounds;
-    while k < end {
-        if bit_at(bytes, k) {
-            return false;
-        }
-        k += 1;
-    }
-    true
+    (rounds..8 * bytes.len()).all(|k| !bit_at(bytes, k))
 }
 
 // x without its lowest `spare` bits.

@@ -1,5 +1,5 @@
 -- Laws of drawing: a turn of each loop, and that what is drawn as a permutation is one.
-use mathlib.Core.Path.{◌≡◌, refl, sym, ap, ◌∙◌}
+use mathlib.Core.Path.{◌≡◌, refl, sym, ap, ◌∙◌, subst}
 use mathlib.Core.List.{List, ◌++◌}
 use Prim.Native.Nat.{ℕ, zero, suc, ◌+◌, ◌-◌, ◌%◌, ◌<◌, ◌≤◌}
 use native.Mathlib.Nat.{mod-lt, div-mul-le_self}
@@ -9,9 +9,8 @@ use native.Mathlib.Omega.{arith}
 use borrow.Author.Tests.{lt-ltb, le-ltb}
 use lib.ListN.{length, get_or, take, drop, set, length-set, drop_of_length-le, take-append-drop, get_or-append}
 use lib.Seq.{drop_at, drop-cons, length-take-le, get_or-set_same, get_or-set_other, set-append_left}
-use Rattle.random.specs.declared.draw.Drawn.{Drawn}
-use Rattle.random.specs.declared.draw.Drawn.TheVariants.{Got, RanOut}
-use Rattle.random.specs.declared.draw.Used.TheVariants.{To, RanOut as NoneLeft}
+use Rattle.std.specs.Prelude.{Option, Some, None, IsSome}
+use Rattle.std.proofs.lemmas.List.{append-nil}
 use Rattle.algebra.specs.Lists.{over}
 use Rattle.algebra.specs.Permutations.{IsPerm, identity}
 use Rattle.random.specs.Drawings.{draw_left, draw_below, Drawing, drew, ran_out, with, largest_multiple, exchange, shuffle, draw_permutation, used_by, drawn_over, Enough}
@@ -21,11 +20,11 @@ use Rattle.algebra.proofs.Permutations.{Stands, stands, from_places, identity-pe
 -- ---- a byte below the limit: a turn of the loop at the place i
 
 module _ (limit : ℕ) (random : List ℕ) (i : ℕ) where
-  pub draw_end : length random ≤ i → draw_left limit (drop i random) i ≡ RanOut
+  pub draw_end : length random ≤ i → draw_left limit (drop i random) i ≡ None
   unfolding draw_left
   draw_end h = rw (drop_of_length-le random h)
 
-  pub draw_hit : i < length random → get_or random i 0 < limit → draw_left limit (drop i random) i ≡ Got (get_or random i 0) (i + 1)
+  pub draw_hit : i < length random → get_or random i 0 < limit → draw_left limit (drop i random) i ≡ Some (get_or random i 0, i + 1)
   unfolding draw_left
   draw_hit h l = rw (drop-cons random i 0 h, lt-ltb (get_or random i 0) limit l)
 
@@ -33,6 +32,12 @@ module _ (limit : ℕ) (random : List ℕ) (i : ℕ) where
       → draw_left limit (drop i random) i ≡ draw_left limit (drop (i + 1) random) (i + 1)
   unfolding draw_left
   draw_skip h l = rw (drop-cons random i 0 h, le-ltb (get_or random i 0) limit l, add-one)
+
+-- what is written over the front of a lent front, with the rest behind it
+pub over-taken : (l d : List ℕ) (n : ℕ) → length l ≡ n → n ≤ length d → over l (take n d) ++ drop n d ≡ over l d
+unfolding over
+over-taken l d n e h =
+    let t : length (take n d) ≤ n = omega (arith, length-take-le n d h) in rw (e, drop_of_length-le (take n d) t, append-nil)
 
 pub largest_multiple-le : (k : ℕ) → largest_multiple k ≤ 256
 largest_multiple-le k = div-mul-le_self 256 k
@@ -85,10 +90,10 @@ shuffle-perm n (suc i) s random at l h =
     (λ x next. shuffle-perm n i (exchange s (suc i) (x % (suc i + 1))) random next (omega arith)
     (exchange-perm n s (suc i) (x % (suc i + 1)) l (let m = mod-lt x {m = suc i + 1} (omega arith) in omega arith) h))
   where
-    step : (d : Drawn) → ((x next : ℕ) → Permutes n (shuffle i (exchange s (suc i) (x % (suc i + 1))) random next))
+    step : (d : Option (ℕ × ℕ)) → ((x next : ℕ) → Permutes n (shuffle i (exchange s (suc i) (x % (suc i + 1))) random next))
         → Permutes n (with d (λ (x next : ℕ). shuffle i (exchange s (suc i) (x % (suc i + 1))) random next))
-    step (Got x next) ih = ih x next
-    step RanOut ih = tt
+    step (Some (x, next)) ih = ih x next
+    step None ih = tt
 
 pub drawn-perm : (n : ℕ) (random : List ℕ) (at : ℕ) → 0 < n → Permutes n (draw_permutation n random at)
 unfolding draw_permutation
@@ -96,32 +101,20 @@ drawn-perm n random at h = shuffle-perm n (n - 1) (identity n) random at (omega 
 
 -- ---- a turn of a loop over the places, of which i are still to be drawn for
 
-shuffle-suc : (j : ℕ) (s random : List ℕ) (p x next : ℕ) → Got x next ≡ draw_below (largest_multiple (suc j + 1)) random p
-    → shuffle (suc j) s random p ≡ shuffle j (exchange s (suc j) (x % (suc j + 1))) random next
+pub shuffle-more : (i : ℕ) (s random : List ℕ) (p x next : ℕ) → 0 < i → Some (x, next) ≡ draw_below (largest_multiple (i + 1)) random p
+    → shuffle i s random p ≡ shuffle (i - 1) (exchange s i (x % (i + 1))) random next
 unfolding shuffle
-shuffle-suc j s random p x next e = rw (← e)
+shuffle-more zero s random p x next h e = absurd (omega arith)
+shuffle-more (suc j) s random p x next h e = rw (← e) (ap (λ (k : ℕ). shuffle k (exchange s (suc j) (x % (suc j + 1))) random next) (omega arith))
 
-module _ (s random : List ℕ) (p i : ℕ) where
-  pub shuffle-more : 1 < i → (x next : ℕ) → Got x next ≡ draw_below (largest_multiple i) random p
-      → shuffle (i - 1) s random p ≡ shuffle (i - 1 - 1) (exchange s (i - 1) (x % i)) random next
-  shuffle-more h x next e =
-      let e1 : i - 1 ≡ suc (i - 1 - 1) = omega arith in
-      let e2 : suc (i - 1 - 1) + 1 ≡ i = omega arith in
-      ap (λ (k : ℕ). shuffle k s random p) e1
-      ∙ shuffle-suc (i - 1 - 1) s random p x next (e ∙ ap (λ (k : ℕ). draw_below (largest_multiple k) random p) (sym e2))
-      ∙ ap (λ (k : ℕ). shuffle (i - 1 - 1) (exchange s (suc (i - 1 - 1)) (x % k)) random next) e2
-      ∙ ap (λ (k : ℕ). shuffle (i - 1 - 1) (exchange s k (x % i)) random next) (sym e1)
+pub shuffle_short : (i : ℕ) (s random : List ℕ) (p : ℕ) → 0 < i → None ≡ draw_below (largest_multiple (i + 1)) random p → shuffle i s random p ≡ ran_out
+unfolding shuffle
+shuffle_short zero s random p h e = absurd (omega arith)
+shuffle_short (suc j) s random p h e = rw (← e)
 
-  pub shuffle_short : 1 < i → RanOut ≡ draw_below (largest_multiple i) random p → shuffle (i - 1) s random p ≡ ran_out
-  unfolding shuffle
-  shuffle_short h e =
-      let e1 : i - 1 ≡ suc (i - 1 - 1) = omega arith in
-      let e2 : suc (i - 1 - 1) + 1 ≡ i = omega arith in
-      rw (e1, e2, ← e)
-
-  pub shuffle_done : i ≤ 1 → shuffle (i - 1) s random p ≡ drew s p
-  unfolding shuffle
-  shuffle_done h = let e : i - 1 ≡ 0 = omega arith in rw e
+pub shuffle_done : (i : ℕ) (s random : List ℕ) (p : ℕ) → i ≤ 1 → shuffle (i - 1) s random p ≡ drew s p
+unfolding shuffle
+shuffle_done i s random p h = let e : i - 1 ≡ 0 = omega arith in rw e
 
 -- the bytes used do not depend on the list
 pub shuffle_used : (i : ℕ) (s t random : List ℕ) (at : ℕ) → used_by (shuffle i s random at) ≡ used_by (shuffle i t random at)
@@ -134,10 +127,10 @@ shuffle_used (suc i) s t random at =
     rest : List ℕ → ℕ → ℕ → Drawing
     rest l x next = shuffle i (exchange l (suc i) (x % (suc i + 1))) random next
 
-    step : (d : Drawn) → ((x next : ℕ) → used_by (rest s x next) ≡ used_by (rest t x next))
+    step : (d : Option (ℕ × ℕ)) → ((x next : ℕ) → used_by (rest s x next) ≡ used_by (rest t x next))
         → used_by (with d (rest s)) ≡ used_by (with d (rest t))
-    step (Got x next) ih = ih x next
-    step RanOut ih = refl
+    step (Some (x, next)) ih = ih x next
+    step None ih = refl
 
 -- ---- the loop that writes
 
@@ -171,23 +164,34 @@ exchange-over s d i j hi hj =
     (ap (λ (k : ℕ). set (set s i (get_or s j 0)) j (get_or s i 0) ++ drop k d) (sym (length-exchange s i j)))
 
 module _ (n : ℕ) (random : List ℕ) (at : ℕ) (d out : List ℕ) (p i : ℕ) (w : Shuffling n random at d out p i) where
-  pub shuffling_more : 1 < i → i ≤ n → (x next : ℕ) → Got x next ≡ draw_below (largest_multiple i) random p
-      → Shuffling n random at d (exchange out (i - 1) (x % i)) next (i - 1)
+  pub shuffling_more : 1 < i → i ≤ n → (x next : ℕ) → Some (x, next) ≡ draw_below (largest_multiple (i - 1 + 1)) random p
+      → Shuffling n random at d (exchange out (i - 1) (x % (i - 1 + 1))) next (i - 1)
   shuffling_more h l x next e =
-      let m = mod-lt x {m = i} (omega arith) in
+      let y = x % (i - 1 + 1) in
+      let m = mod-lt x {m = i - 1 + 1} (omega arith) in
       let len = w.len in
       record {
-        list = exchange w.list (i - 1) (x % i);
-        len = length-exchange w.list (i - 1) (x % i) ∙ len;
-        rest = sym (shuffle-more w.list random p i h x next e) ∙ w.rest;
-        now = ap (λ (z : List ℕ). exchange z (i - 1) (x % i)) w.now ∙ exchange-over w.list d (i - 1) (x % i) (omega arith) (omega arith);
+        list = exchange w.list (i - 1) y;
+        len = length-exchange w.list (i - 1) y ∙ len;
+        rest = sym (shuffle-more (i - 1) w.list random p x next (omega arith) e) ∙ w.rest;
+        now = ap (λ (z : List ℕ). exchange z (i - 1) y) w.now ∙ exchange-over w.list d (i - 1) y (omega arith) (omega arith);
       }
 
-  pub shuffling_short : 1 < i → RanOut ≡ draw_below (largest_multiple i) random p → shuffle (n - 1) (take n d) random at ≡ ran_out
-  shuffling_short h e = sym w.rest ∙ shuffle_short w.list random p i h e
+  -- where the whole has enough, so has the next byte
+  pub shuffling_enough : 1 < i → Enough (shuffle (n - 1) (take n d) random at) → IsSome (draw_below (largest_multiple (i - 1 + 1)) random p)
+  shuffling_enough h enough = step _ refl
+    where
+      step : (b : Option (ℕ × ℕ)) → b ≡ draw_below (largest_multiple (i - 1 + 1)) random p → IsSome b
+      step (Some drawn) e = refl
+      step None e = absurd (subst Enough (sym w.rest ∙ shuffle_short (i - 1) w.list random p (omega arith) e) enough)
+
+  pub shuffling_short : 1 < i → None ≡ draw_below (largest_multiple i) random p → shuffle (n - 1) (take n d) random at ≡ ran_out
+  shuffling_short h e =
+      let k : i - 1 + 1 ≡ i = omega arith in
+      sym w.rest ∙ shuffle_short (i - 1) w.list random p (omega arith) (rw k e)
 
   pub shuffling_done : i ≤ 1 → shuffle (n - 1) (take n d) random at ≡ drew w.list p
-  shuffling_done h = sym w.rest ∙ shuffle_done w.list random p i h
+  shuffling_done h = sym w.rest ∙ shuffle_done i w.list random p h
 
 -- ---- the whole drawing: the identity is written first
 
@@ -207,10 +211,10 @@ drawn-over-identity n ran_out d h e = absurd e
 
 -- ---- what the measured answer says of the drawing
 
-pub enough_of : (m : Drawing) (q : ℕ) → To q ≡ used_by m → Enough m
+pub enough_of : (m : Drawing) (q : ℕ) → Some q ≡ used_by m → Enough m
 enough_of (drew s at) q e = tt
 enough_of ran_out q e = let z : ◌≡◌ {A = ℕ} 0 1 = cc in absurd (omega arith)
 
-pub untouched : (m : Drawing) (d : List ℕ) → NoneLeft ≡ used_by m → d ≡ drawn_over m d
+pub untouched : (m : Drawing) (d : List ℕ) → None ≡ used_by m → d ≡ drawn_over m d
 untouched (drew s at) d e = let z : ◌≡◌ {A = ℕ} 0 1 = cc in absurd (omega arith)
 untouched ran_out d e = refl

@@ -7,8 +7,7 @@ use native.Mathlib.Omega.{arith}
 use borrow.Author.Tests.{ltb-true}
 use lib.Dec.{ltb}
 use lib.ListN.{length, get_or}
-use Rattle.random.specs.declared.draw.Drawn.{Drawn}
-use Rattle.random.specs.declared.draw.Drawn.TheVariants.{Got, RanOut}
+use Rattle.std.specs.Prelude.{Option, Some, None}
 use Rattle.algebra.specs.Lists.{tab, all_below, count, same_bytes}
 use Rattle.algebra.specs.Residues.{modulus}
 use Rattle.algebra.specs.Permutations.{longest, identity}
@@ -19,31 +18,31 @@ use Rattle.algebra.proofs.Permutations.{identity-perm}
 
 -- ---- below the limit
 
-below_left : (limit : ℕ) (left : List ℕ) (at x next : ℕ) → Got x next ≡ draw_left limit left at → x < limit
+below_left : (limit : ℕ) (left : List ℕ) (at x next : ℕ) → Some (x, next) ≡ draw_left limit left at → x < limit
 unfolding draw_left
 below_left limit [] at x next e = let z : ◌≡◌ {A = ℕ} 0 1 = cc in absurd (omega arith)
 below_left limit (y ∷ left) at x next e = step (ltb y limit) refl e (below_left limit left (at + 1) x next)
   where
-    step : (b : Bool) → ltb y limit ≡ b → Got x next ≡ cond b (Got y (at + 1)) (draw_left limit left (at + 1))
-        → (Got x next ≡ draw_left limit left (at + 1) → x < limit) → x < limit
-    step true t e ih = let s : x ≡ y = cc in let l = ltb-true y limit t in omega arith
+    step : (b : Bool) → ltb y limit ≡ b → Some (x, next) ≡ cond b (Some (y, at + 1)) (draw_left limit left (at + 1))
+        → (Some (x, next) ≡ draw_left limit left (at + 1) → x < limit) → x < limit
+    step true t e ih = let q : ◌≡◌ {A = ℕ × ℕ} (x, next) (y, at + 1) = cc in let s : x ≡ y = ap (λ (d : ℕ × ℕ). d.0) q in let l = ltb-true y limit t in omega arith
     step false t e ih = ih e
 
-pub drawn-below : (limit : ℕ) (random : List ℕ) (at x next : ℕ) → Got x next ≡ draw_below limit random at → x < limit
+pub drawn-below : (limit : ℕ) (random : List ℕ) (at x next : ℕ) → Some (x, next) ≡ draw_below limit random at → x < limit
 unfolding draw_below
 drawn-below limit random at x next e = below_left limit _ at x next e
 
 -- a byte below the limit is the one drawn
-pub drawn-at : (limit : ℕ) (random : List ℕ) (at : ℕ) → at < length random → get_or random at 0 < limit → draw_below limit random at ≡ Got (get_or random at 0) (at + 1)
+pub drawn-at : (limit : ℕ) (random : List ℕ) (at : ℕ) → at < length random → get_or random at 0 < limit → draw_below limit random at ≡ Some (get_or random at 0, at + 1)
 unfolding draw_below
 drawn-at limit random at = draw_hit limit random at
 
 -- ---- no value is favoured
 
 -- the remainder by k of a byte that is taken; nothing of one that is skipped
-abbrev remainder : ℕ → Drawn → List ℕ
-remainder k (Got x next) = x % k ∷ []
-remainder k RanOut = []
+abbrev remainder : ℕ → Option (ℕ × ℕ) → List ℕ
+remainder k (Some (x, next)) = x % k ∷ []
+remainder k None = []
 
 -- of each byte from x on, `left` of them
 unfoldable pub remainders : ℕ → ℕ → ℕ → ℕ → List ℕ

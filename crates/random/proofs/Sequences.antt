@@ -8,24 +8,23 @@ use native.Mathlib.Decide.{ℕ_discrete}
 use native.Mathlib.Omega.{arith}
 use lib.ListN.{length, get_or, take, drop, length-append, length-drop}
 use lib.Seq.{get_or-take, get_or-drop, take_all, take-append-le, drop-append-le, drop_at}
-use Rattle.random.specs.declared.draw.Drawn.{Drawn}
-use Rattle.random.specs.declared.draw.Drawn.TheVariants.{Got, RanOut}
-use Rattle.random.specs.declared.draw.Used.TheVariants.{To, RanOut as NoneLeft}
+use Rattle.std.specs.Prelude.{Option, Some, None, IsSome}
 use borrow.Rule.Slice.PartMut.{put_mid, mid_of}
 use Rattle.algebra.specs.Lists.{stretch, over, over_at}
 use Rattle.algebra.specs.Residues.{Residues}
 use Rattle.random.specs.Drawings.{draw_below, Drawing, drew, ran_out, with, used_by, drawn_over, Enough}
-use Rattle.algebra.proofs.Lists.{part_stretch, stretch-fits, part_over, over-behind}
+use Rattle.algebra.proofs.Lists.{front, part_stretch, stretch-fits, part_over, over-behind}
+use Rattle.random.proofs.Drawings.{over-taken}
 use Rattle.random.proofs.Fair.{drawn-below}
 use Rattle.random.specs.Sequences.{made, and_then, many_times, one_below, some_below}
 
 -- ---- what a place used says of the drawing
 
-pub drew_of : (d : Drawing) (p : ℕ) → To p ≡ used_by d → (l : List ℕ) × (d ≡ drew l p)
+pub drew_of : (d : Drawing) (p : ℕ) → Some p ≡ used_by d → (l : List ℕ) × (d ≡ drew l p)
 drew_of (drew l at) p e = let q : at ≡ p = cc in (l, ap (drew l) q)
 drew_of ran_out p e = let z : ◌≡◌ {A = ℕ} 0 1 = cc in absurd (omega arith)
 
-pub ran_out_of : (d : Drawing) → NoneLeft ≡ used_by d → d ≡ ran_out
+pub ran_out_of : (d : Drawing) → None ≡ used_by d → d ≡ ran_out
 ran_out_of (drew l at) e = let z : ◌≡◌ {A = ℕ} 0 1 = cc in absurd (omega arith)
 ran_out_of ran_out e = refl
 
@@ -37,7 +36,7 @@ made_used f ran_out = refl
 
 -- ---- a drawing and then another
 
-pub then_used : (d : Drawing) (next : ℕ → Drawing) (p : ℕ) → To p ≡ used_by d → used_by (next p) ≡ used_by (and_then d next)
+pub then_used : (d : Drawing) (next : ℕ → Drawing) (p : ℕ) → Some p ≡ used_by d → used_by (next p) ≡ used_by (and_then d next)
 then_used d next p e =
     let q = drew_of d p e in
     sym (ap (λ (z : Drawing). used_by (and_then z next)) q.1 ∙ made_used (λ (m : List ℕ). q.0 ++ m) (next p))
@@ -46,7 +45,7 @@ then_used d next p e =
 pub then_drew : (d : Drawing) (next : ℕ → Drawing) {l m : List ℕ} {p q : ℕ} → d ≡ drew l p → next p ≡ drew m q → and_then d next ≡ drew (l ++ m) q
 then_drew d next {l} e f = ap (λ (z : Drawing). and_then z next) e ∙ ap (made (λ (m : List ℕ). l ++ m)) f
 
-pub then_short : (d : Drawing) (next : ℕ → Drawing) → NoneLeft ≡ used_by d → NoneLeft ≡ used_by (and_then d next)
+pub then_short : (d : Drawing) (next : ℕ → Drawing) → None ≡ used_by d → None ≡ used_by (and_then d next)
 then_short d next e = sym (ap (λ (z : Drawing). used_by (and_then z next)) (ran_out_of d e))
 
 -- where both have enough, each has
@@ -58,7 +57,7 @@ pub enough-made : (f : List ℕ → List ℕ) (d : Drawing) → Enough (made f d
 enough-made f (drew l p) h = tt
 enough-made f ran_out h = absurd h
 
-pub enough_next : (d : Drawing) (next : ℕ → Drawing) (p : ℕ) → Enough (and_then d next) → To p ≡ used_by d → Enough (next p)
+pub enough_next : (d : Drawing) (next : ℕ → Drawing) (p : ℕ) → Enough (and_then d next) → Some p ≡ used_by d → Enough (next p)
 enough_next d next p h e =
     let q = drew_of d p e in
     enough-made (λ (m : List ℕ). q.0 ++ m) (next p) (subst (λ (z : Drawing). Enough (and_then z next)) q.1 h)
@@ -91,13 +90,13 @@ module _ (next : ℕ → Drawing) (at : ℕ) where
       step (no q) ih = ap (λ (d : Drawing). and_then d next) (ih (omega arith))
 
   -- one runs out, and so the whole does
-  pub times_ends : (n j p : ℕ) → j < n → To p ≡ used_by (many_times j next at) → NoneLeft ≡ used_by (next p) → many_times n next at ≡ ran_out
+  pub times_ends : (n j p : ℕ) → j < n → Some p ≡ used_by (many_times j next at) → None ≡ used_by (next p) → many_times n next at ≡ ran_out
   times_ends n j p l e f =
       times-short n (j + 1) (omega arith)
       (ran_out_of (many_times (j + 1) next at) (f ∙ then_used (many_times j next at) next p e ∙ ap used_by (sym (times_more j))))
 
   -- a loop that measures
-  pub measured_more : (j p q : ℕ) → To p ≡ used_by (many_times j next at) → To q ≡ used_by (next p) → To q ≡ used_by (many_times (j + 1) next at)
+  pub measured_more : (j p q : ℕ) → Some p ≡ used_by (many_times j next at) → Some q ≡ used_by (next p) → Some q ≡ used_by (many_times (j + 1) next at)
   measured_more j p q e f = f ∙ then_used (many_times j next at) next p e ∙ ap used_by (sym (times_more j))
 
 -- ---- a loop that writes: j are over the front of d
@@ -131,10 +130,20 @@ module _ (next : ℕ → Drawing) (at : ℕ) (d out : List ℕ) (j p : ℕ) (w :
       step (drew x q) e = tt
       step ran_out e = absurd (subst Enough (times_ends next at n j p l (sym (ap used_by w.drawn)) (sym (ap used_by e))) h)
 
-  pub written_all : (n : ℕ) → j ≡ n → (To p ≡ used_by (many_times n next at)) × (out ≡ drawn_over (many_times n next at) d)
+  pub written_all : (n : ℕ) → j ≡ n → (Some p ≡ used_by (many_times n next at)) × (out ≡ drawn_over (many_times n next at) d)
   written_all n e =
       let q : many_times n next at ≡ drew w.list p = ap (λ (k : ℕ). many_times k next at) (sym e) ∙ w.drawn in
       (sym (ap used_by q), w.now ∙ sym (ap (λ (z : Drawing). drawn_over z d) q))
+
+-- over a lent front, whose rest stands behind it
+module _ (next : ℕ → Drawing) (at : ℕ) (d out : List ℕ) (j n p : ℕ) (w : Written next at (take n d) out j p) where
+  pub written_front : j ≡ n → length w.list ≡ n → n ≤ length d
+      → (Some p ≡ used_by (many_times n next at)) × (out ++ drop n d ≡ drawn_over (many_times n next at) d)
+  written_front e s h =
+      let q : many_times n next at ≡ drew w.list p = ap (λ (k : ℕ). many_times k next at) (sym e) ∙ w.drawn in (
+        sym (ap used_by q),
+        ap (λ (z : List ℕ). z ++ drop n d) w.now ∙ over-taken w.list d n s h ∙ sym (ap (λ (z : Drawing). drawn_over z d) q),
+      )
 
 -- ---- what holds of each list drawn
 
@@ -197,22 +206,31 @@ written_each P size next h at d out j p w = subst (Always (Stretches P size j)) 
 -- ---- a byte below the limit
 
 module _ (limit : ℕ) (random : List ℕ) (p : ℕ) where
-  pub one_got : (x q : ℕ) → Got x q ≡ draw_below limit random p → one_below limit random p ≡ drew (x ∷ []) q
+  pub one_got : (x q : ℕ) → Some (x, q) ≡ draw_below limit random p → one_below limit random p ≡ drew (x ∷ []) q
   unfolding one_below
   one_got x q e = rw (← e)
 
-  pub one_short : RanOut ≡ draw_below limit random p → one_below limit random p ≡ ran_out
+  pub one_short : None ≡ draw_below limit random p → one_below limit random p ≡ ran_out
   unfolding one_below
   one_short e = rw (← e)
+
+  -- where there is one, there is its byte
+  pub one_enough : Enough (one_below limit random p) → IsSome (draw_below limit random p)
+  unfolding one_below
+  one_enough = step (draw_below limit random p)
+    where
+      step : (d : Option (ℕ × ℕ)) → Enough (with d (λ (x next : ℕ). drew (x ∷ []) next)) → IsSome d
+      step (Some drawn) h = refl
+      step None h = absurd h
 
   one_below_lem : Always (λ (l : List ℕ). (length l ≡ 1) × (get_or l 0 0 < limit)) (one_below limit random p)
   unfolding one_below
   one_below_lem = step (draw_below limit random p) (drawn-below limit random p)
     where
-      step : (d : Drawn) → ((x q : ℕ) → Got x q ≡ d → x < limit)
+      step : (d : Option (ℕ × ℕ)) → ((x q : ℕ) → Some (x, q) ≡ d → x < limit)
           → Always (λ (l : List ℕ). (length l ≡ 1) × (get_or l 0 0 < limit)) (with d (λ (x next : ℕ). drew (x ∷ []) next))
-      step (Got x next) h = (refl, h x next refl)
-      step RanOut h = tt
+      step (Some (x, next)) h = (refl, h x next refl)
+      step None h = tt
 
 -- n of them are n long, and each is below the limit
 module _ (limit : ℕ) (random : List ℕ) where
@@ -236,3 +254,10 @@ module _ (limit : ℕ) (random : List ℕ) where
 
   pub written_bytes : (at : ℕ) (d out : List ℕ) (j p : ℕ) (w : Written (one_below limit random) at d out j p) → length w.list ≡ j
   written_bytes at d out j p w = (subst (Always (λ (l : List ℕ). (length l ≡ j) × Residues limit l)) w.drawn (some_below_lem j at)).0
+
+  -- and they are the front of the room that they are drawn into
+  pub drawn_front : (n at p : ℕ) (l room out : List ℕ) → some_below limit n random at ≡ drew l p → out ≡ drawn_over (some_below limit n random at) room
+      → (length l ≡ n) × (take n out ≡ l)
+  drawn_front n at p l room out e w =
+      let s = (subst (Always (λ (z : List ℕ). (length z ≡ n) × Residues limit z)) e (some_below_lem n at)).0 in
+      (s, front l room out n s (w ∙ ap (λ (d : Drawing). drawn_over d room) e))

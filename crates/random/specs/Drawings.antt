@@ -1,20 +1,16 @@
 -- Drawing from lent bytes (document 01, "Drawing from lent bytes"). A drawing starts at a place of the lent bytes; the place where it ends
 -- is the number of bytes used, skipped ones counted.
-use Rattle.std.specs.Prelude.{cond, List, [], ◌∷◌, ℕ, zero, suc, ◌+◌, ◌-◌, ◌*◌, ◌/◌, ◌%◌, ltb, drop, get_or, set}
-use Rattle.random.specs.declared.draw.Drawn.{Drawn}
-use Rattle.random.specs.declared.draw.Drawn.TheVariants.{Got, RanOut}
-use Rattle.random.specs.declared.draw.Used.{Used}
-use Rattle.random.specs.declared.draw.Used.TheVariants.{To, RanOut as NoneLeft}
+use Rattle.std.specs.Prelude.{cond, List, [], ◌∷◌, ℕ, zero, suc, ◌+◌, ◌-◌, ◌*◌, ◌/◌, ◌%◌, ltb, drop, get_or, set, Option, Some, None}
 use Rattle.algebra.specs.Lists.{over}
 use Rattle.algebra.specs.Permutations.{identity}
 
 -- the first byte below the limit, others skipped, and the place after it: of the bytes that are left, whose first stands at the place `at`
-unfoldable pub draw_left : ℕ → List ℕ → ℕ → Drawn
-draw_left limit [] at = RanOut
-draw_left limit (x ∷ left) at = cond (ltb x limit) (Got x (at + 1)) (draw_left limit left (at + 1))
+unfoldable pub draw_left : ℕ → List ℕ → ℕ → Option (ℕ × ℕ)
+draw_left limit [] at = None
+draw_left limit (x ∷ left) at = cond (ltb x limit) (Some (x, at + 1)) (draw_left limit left (at + 1))
 
 -- a residue is drawn below 251
-unfoldable pub draw_below : ℕ → List ℕ → ℕ → Drawn
+unfoldable pub draw_below : ℕ → List ℕ → ℕ → Option (ℕ × ℕ)
 draw_below limit random at = draw_left limit (drop at random) at
 
 -- what a drawing of several gives: what was drawn, and the place after the last byte used; or that the bytes ran out
@@ -23,9 +19,9 @@ pub data Drawing : Type 0 where
   ran_out : Drawing
 
 -- to draw a byte and go on with it from the place after it
-abbrev pub with : Drawn → (ℕ → ℕ → Drawing) → Drawing
-with (Got x next) rest = rest x next
-with RanOut rest = ran_out
+abbrev pub with : Option (ℕ × ℕ) → (ℕ → ℕ → Drawing) → Drawing
+with (Some (x, next)) rest = rest x next
+with None rest = ran_out
 
 -- the largest multiple of k up to 256
 abbrev pub largest_multiple : ℕ → ℕ
@@ -49,9 +45,9 @@ draw_permutation n random at = shuffle (n - 1) (identity n) random at
 -- ---- what the code says of a drawing
 
 -- the answer
-abbrev pub used_by : Drawing → Used
-used_by (drew list at) = To at
-used_by ran_out = NoneLeft
+abbrev pub used_by : Drawing → Option ℕ
+used_by (drew list at) = Some at
+used_by ran_out = None
 
 -- the output afterwards: what was drawn over its front, or what it held
 abbrev pub drawn_over : Drawing → List ℕ → List ℕ

@@ -17,11 +17,35 @@ use Rattle.algebra.proofs.Lists.{stretch-fits}
 use Rattle.kinds.specs.declared.Kind.TheVariants.{Openings}
 use Rattle.kinds.specs.Kinds.{alone}
 use Rattle.frames.specs.Reading.{first_of, second_of, reading, opening_check, opening_of}
-use Rattle.frames.proofs.Facts.{Shaped, reading-told, numbers-small, size_small}
+use Rattle.frames.proofs.Facts.{FrameFits, Shaped, reading-told, numbers-small, size_small}
 
--- N as it was read
-pub rounds-read : (s : List ℕ) (a b start : ℕ) → done (a ∷ b ∷ start ∷ []) ≡ reading Openings alone s → b ≡ second_of Openings s
-rounds-read s a b start e = sym (ap (λ (l : List ℕ). get_or l 1 0) (reading-told Openings alone s _ (sym e)).1)
+-- the numbers, as they were read, and what is known of the frame then
+module _ (s : List ℕ) (a b start : ℕ) (e : done (a ∷ b ∷ start ∷ []) ≡ reading Openings alone s) where
+  told : FrameFits Openings alone s × (first_of s ∷ second_of Openings s ∷ 6 ∷ [] ≡ a ∷ b ∷ start ∷ [])
+  told = reading-told Openings alone s _ (sym e)
+
+  pub first-read : a ≡ first_of s
+  first-read = sym (ap (λ (l : List ℕ). get_or l 0 0) told.1)
+
+  pub second-read : b ≡ second_of Openings s
+  second-read = sym (ap (λ (l : List ℕ). get_or l 1 0) told.1)
+
+  pub start-read : start ≡ 6
+  start-read = sym (ap (λ (l : List ℕ). get_or l 2 0) told.1)
+
+  -- where round k ends, of which there are b
+  pub opening_ends : (k : ℕ) → k < b → (k ≤ 64) × (k * a + a ≤ 4096) × (start + k * a + a ≤ length s)
+  opening_ends k l =
+      let h = told.0.form in
+      let N = second_of Openings s in
+      let t = numbers-small Openings (first_of s) N h.numbers in
+      let m = size_small Openings (first_of s) N t.0 t.1 in
+      let w = h.whole in
+      let f = stretch-fits a k N (rw second-read at l) in
+      let q : N * a ≡ first_of s * N = mul_comm N a ∙ ap (λ (z : ℕ). z * N) first-read in
+      let z = start-read in
+      let y = second-read in
+      (omega arith, omega arith, omega arith)
 
 module _ (s : List ℕ) (round : ℕ) where
   pub no_frame : (x y z : ℕ) → refused x y z ≡ reading Openings alone s → refused x y z ≡ opening_check s round
@@ -44,22 +68,17 @@ module _ (s : List ℕ) (round : ℕ) where
       let p = first_done (reading Openings alone s) (demand t SHAPE NONE 0) v e in
       ((reading-told Openings alone s p.0.0 p.0.1).0.form, ltb-true _ _ (demand_done t SHAPE NONE 0 v p.1))
 
-  -- the stretch as the code cuts it, n being the first number
-  pub opening-cut : (n : ℕ) → n ≡ first_of s → opening_check s round ≡ fine
-      → take (6 + round * n + n - (6 + round * n)) (drop (6 + round * n) s) ≡ opening_of s round
-  unfolding opening_of stretch
-  opening-cut n e q =
-      let z : 6 + round * n + n - (6 + round * n) ≡ n = omega arith in
-      rw (q, z, drop-drop (round * first_of s) 6 s, e)
+  -- and its frame was read
+  pub opening-read : (v : List ℕ) → opening_check s round ≡ done v → done (first_of s ∷ second_of Openings s ∷ 6 ∷ []) ≡ reading Openings alone s
+  unfolding opening_check
+  opening-read v e =
+      let p = first_done (reading Openings alone s) (demand (ltb round (second_of Openings s)) SHAPE NONE 0) v e in
+      ap done (reading-told Openings alone s p.0.0 p.0.1).1 ∙ sym p.0.1
 
--- where it ends
-pub opening_ends : (s : List ℕ) (round n : ℕ) → n ≡ first_of s → Shaped Openings alone s → round < second_of Openings s
-    → (round ≤ 64) × (round * n + n ≤ 4096) × (6 + round * n + n ≤ length s)
-opening_ends s round n e h l =
-    let N = second_of Openings s in
-    let t = numbers-small Openings (first_of s) N h.numbers in
-    let m = size_small Openings (first_of s) N t.0 t.1 in
-    let w = h.whole in
-    let f = stretch-fits n round N l in
-    let q : N * n ≡ first_of s * N = mul_comm N n ∙ ap (λ (z : ℕ). z * N) e in
-    (omega arith, omega arith, omega arith)
+  -- the stretch as the code cuts it, n being the first number
+  pub opening-cut : (n start : ℕ) → n ≡ first_of s → start ≡ 6 → fine ≡ opening_check s round
+      → take (start + round * n + n - (start + round * n)) (drop (start + round * n) s) ≡ opening_of s round
+  unfolding opening_of stretch
+  opening-cut n start e d q =
+      let z : start + round * n + n - (start + round * n) ≡ n = omega arith in
+      rw (← q, z, d, drop-drop (round * first_of s) 6 s, e)

@@ -1,41 +1,36 @@
 -- For each call: no second outcome fits what it promises. Nothing is lent to it for writing. And the numbers that it refuses by.
-use mathlib.Core.Path.{◌≡◌, refl, sym, ap, ◌∙◌}
+use Rattle.frames.specs.declared.read.Frame.{Frame}
+use Rattle.refusals.specs.declared.Refusal.{Refusal}
+use Rattle.std.specs.Prelude.{⊤, Result}
+use mathlib.Core.Path.{◌≡◌, refl, sym, ◌∙◌}
 use mathlib.Core.List.{List, [], ◌∷◌}
 use Prim.Native.Nat.{ℕ, ◌+◌, ◌*◌, ◌≤◌}
 use native.Mathlib.Omega.{arith}
 use lib.Dec.{eqb, ltb, leb}
 use lib.ListN.{length, get_or}
 use Rattle.refusals.specs.Number.{SHORT, LONG, VERSION, KIND, SHAPE, VALUE, PERM}
-use Rattle.refusals.specs.declared.Checked.{Checked}
 use Rattle.refusals.specs.Buffer.{NONE, CHOICES}
-use Rattle.refusals.specs.Told.{Told, done, refused, means, first, first_below, demand}
-use Rattle.refusals.proofs.Chain.{means_fixes, UpTo, done_most, demand-most, first-most, below-most, test_most, most-more}
+use Rattle.refusals.specs.Told.{Told, done, means, first, first_below, demand}
+use Rattle.refusals.proofs.Chain.{means_fixes, outcome_fixes, UpTo, done_most, demand-most, first-most, below-most, test_most, most-more}
 use Rattle.algebra.specs.Lists.{stretch}
 use Rattle.algebra.specs.Residues.{modulus}
 use Rattle.algebra.specs.Permutations.{is_perm}
 use Rattle.kinds.specs.declared.Kind.{Kind}
 use Rattle.kinds.specs.declared.Kind.TheVariants.{System, Public, Secret, Commitments, Challenges, Answers, Bits, Openings}
 use Rattle.kinds.specs.declared.Expected.{Expected}
-use Rattle.frames.specs.declared.read.Read.{Read}
-use Rattle.frames.specs.declared.read.Read.TheVariants.{Frame, Refused}
 use Rattle.kinds.specs.Kinds.{alone, table}
 use Rattle.bodies.specs.Bodies.{residue_at, values, permutation_at, permutations, content}
-use Rattle.frames.specs.Reading.{count_of, header, first_of, second_of, rest_of, shape, reading, read_means, Reads, opening_check}
+use Rattle.frames.specs.Reading.{count_of, header, first_of, second_of, rest_of, shape, reading, Reads, opening_check}
 use Rattle.readers.specs.Choosing.{choice_size, choice_of, vector_of, permutation_of, choice_check, choice_at, choices_check}
 
 -- ---- readers: they write nothing
 
-reader : Told → Read
-reader (done v) = Frame (get_or v 0 0) (get_or v 1 0) (get_or v 2 0)
-reader (refused x y z) = Refused (record { number = x; buffer = y; place = z })
+frame_of : List ℕ → Frame
+frame_of v = record { first = get_or v 0 0; second = get_or v 1 0; start = get_or v 2 0 }
 
-reader-means : (a : Read) → reader (read_means a) ≡ a
-unfolding reader
-reader-means (Frame a b start) = refl
-reader-means (Refused r) = refl
-
-pub one_reading : (k : Kind) (e : Expected) (s : List ℕ) (a b : Read) → Reads k e s a → Reads k e s b → a ≡ b
-one_reading k e s a b p q = sym (reader-means a) ∙ ap reader (p.says ∙ sym q.says) ∙ reader-means b
+pub one_reading : (k : Kind) (e : Expected) (s : List ℕ) (a b : Result Frame Refusal) → Reads k e s a → Reads k e s b → a ≡ b
+unfolding frame_of
+one_reading k e s a b p q = outcome_fixes (λ f. f.first ∷ f.second ∷ f.start ∷ []) frame_of (λ f. refl) a b (p.says ∙ sym q.says)
 
 -- a reader refuses by the numbers up to PERM alone
 values-most : (b at : ℕ) (l : List ℕ) → UpTo PERM (values b at l)
@@ -101,7 +96,7 @@ choices-most n N choices =
 
 -- ---- the check of a named round: its contract is an equation, and so is that of the stretch handed back
 
-pub one_opening_check : (s : List ℕ) (round : ℕ) (a b : Checked) → means a ≡ opening_check s round → means b ≡ opening_check s round → a ≡ b
+pub one_opening_check : (s : List ℕ) (round : ℕ) (a b : Result ⊤ Refusal) → means a ≡ opening_check s round → means b ≡ opening_check s round → a ≡ b
 one_opening_check s round a b p q = means_fixes a b (p ∙ sym q)
 
 -- it refuses by the numbers up to PERM too

@@ -1,67 +1,36 @@
-// The eight readers, one for each kind of frame; the opening of a named round; and the choices of a card.
+// The reader of a frame of any kind; the opening of a named round; and the choices of a card.
 #![tactic(auto)]
 
-ghost use Rattle.frames.specs.Reading.{Reads};
+ghost use Rattle.std.specs.Prelude.{◌≡◌, ◌≤◌, length};
+ghost use Rattle.matrices.specs.Matrices.{SystemFits};
+ghost use Rattle.frames.specs.Reading.{Reads, first_of, second_of, rest_of};
 ghost use Rattle.kinds.specs.Kinds.{alone};
 
-use frames::read::{Read, read_frame};
-use kinds::{Kind, alone};
+use frames::read::{Frame, read_frame};
+use kinds::{AFTER_TWO, Expected, FIRST_NUMBER, Kind, SECOND_NUMBER};
+use matrices::Matrix;
+use refusals::Refusal;
 
-pub mod by_number;
 pub mod choices;
 pub mod opening;
 
-// A frame of any kind, alone.
-fn read_alone(kind: Kind, frame: &[u8]) -> Read
+// Reads a frame of a kind, alone.
+pub fn read(kind: Kind, frame: &[u8]) -> Result<Frame, Refusal>
     ensures { Reads kind alone frame.now result }
 {
-    read_frame(kind, alone(), frame)
+    read_frame(kind, Expected::alone(), frame)
 }
 
-pub fn read_system(frame: &[u8]) -> Read
-    ensures { Reads Kind.System alone frame.now result }
+// The matrix that lies in the frame of a system.
+pub fn matrix_of(system: &[u8]) -> Matrix
+    requires { (6 ≤ length system.now) × SystemFits (rest_of Kind.System system.now) (first_of system.now) (second_of Kind.System system.now) }
+    ensures entries { result.entries.now ≡ rest_of Kind.System system.now }
+    ensures places { result.n ≡ first_of system.now }
+    ensures rows { result.m ≡ second_of Kind.System system.now }
 {
-    read_alone(Kind::System, frame)
-}
-
-pub fn read_public_key(frame: &[u8]) -> Read
-    ensures { Reads Kind.Public alone frame.now result }
-{
-    read_alone(Kind::Public, frame)
-}
-
-pub fn read_secret_key(frame: &[u8]) -> Read
-    ensures { Reads Kind.Secret alone frame.now result }
-{
-    read_alone(Kind::Secret, frame)
-}
-
-pub fn read_commitments(frame: &[u8]) -> Read
-    ensures { Reads Kind.Commitments alone frame.now result }
-{
-    read_alone(Kind::Commitments, frame)
-}
-
-pub fn read_challenges(frame: &[u8]) -> Read
-    ensures { Reads Kind.Challenges alone frame.now result }
-{
-    read_alone(Kind::Challenges, frame)
-}
-
-pub fn read_first_answers(frame: &[u8]) -> Read
-    ensures { Reads Kind.Answers alone frame.now result }
-{
-    read_alone(Kind::Answers, frame)
-}
-
-pub fn read_bits(frame: &[u8]) -> Read
-    ensures { Reads Kind.Bits alone frame.now result }
-{
-    read_alone(Kind::Bits, frame)
-}
-
-pub fn read_openings(frame: &[u8]) -> Read
-    ensures { Reads Kind.Openings alone frame.now result }
-{
-    read_alone(Kind::Openings, frame)
+    Matrix {
+        entries: &system[AFTER_TWO..],
+        n: usize::from(system[FIRST_NUMBER]),
+        m: usize::from(system[SECOND_NUMBER]),
+    }
 }

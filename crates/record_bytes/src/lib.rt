@@ -1,47 +1,30 @@
 // The session record as 68 bytes, for programs that keep it as such.
 #![tactic(auto)]
 
-ghost use Rattle.std.specs.Prelude.{◌≡◌, length};
-
-use algebra::output::{copy_at, copy_into};
 use card_rules::session::Session;
 use hosting::bytes::byte_of;
 use kinds::MOST_ROUNDS;
+use std::array::from_fn;
 
 // Where the challenges start.
 const CHALLENGES_AT: usize = 4;
 
-fn challenges_of(record: &[u8]) -> [u8; MOST_ROUNDS] {
-    let mut challenges = [0u8; MOST_ROUNDS];
-    let mut k: usize = 0;
-    while k < MOST_ROUNDS {
-        challenges[k] = byte_of(record, CHALLENGES_AT + k);
-        k += 1;
-    }
-    challenges
-}
+pub const RECORD_SIZE: usize = CHALLENGES_AT + MOST_ROUNDS;
 
+// What the bytes lack is 0.
 pub fn session_of(record: &[u8]) -> Session {
     Session {
         stage: byte_of(record, 0),
         n: byte_of(record, 1),
         m: byte_of(record, 2),
         rounds: byte_of(record, 3),
-        challenges: challenges_of(record),
+        challenges: from_fn(|k| byte_of(record, CHALLENGES_AT + k)),
     }
 }
 
-fn put_challenges(challenges: [u8; MOST_ROUNDS], out: &mut [u8])
-    requires { length out.old ≡ 68 }
-{
-    copy_at(&challenges, CHALLENGES_AT, out);
-}
-
-pub fn put_session(session: Session, out: &mut [u8])
-    requires { length out.old ≡ 68 }
-{
-    let numbers = [session.stage, session.n, session.m, session.rounds];
-    let challenges = session.challenges;
-    copy_into(&numbers, out);
-    put_challenges(challenges, out);
+pub fn record_of(session: Session) -> [u8; RECORD_SIZE] {
+    let mut record = [0; RECORD_SIZE];
+    record[..CHALLENGES_AT].copy_from_slice(&[session.stage, session.n, session.m, session.rounds]);
+    record[CHALLENGES_AT..].copy_from_slice(&session.challenges);
+    record
 }

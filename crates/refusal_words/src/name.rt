@@ -1,56 +1,51 @@
 // What refusals, buffers and stages are called.
 use card_rules::session::{ANSWERED, CLOSED, COMMITTED, IDLE};
-use hosting::text::say;
-use refusals::buffer::{
-    ANSWERS, BITS, CHALLENGES, CHOICES, COMMITMENTS, OPENINGS, PUBLIC, RANDOM, SECRET, SYSTEM,
-};
-use refusals::number::{
-    DRAW, FIRST, KEY, KIND, LONG, PERM, ROOM, SECOND, SHAPE, SHORT, STAGE, VALUE, VERSION, WEAK,
-};
+use refusals::{Buffer, Reason};
 
 // Document 01's name of a refusal.
-pub fn say_refusal_name(number: u8) {
-    match number {
-        SHORT => say(b"SHORT"),
-        LONG => say(b"LONG"),
-        VERSION => say(b"VERSION"),
-        KIND => say(b"KIND"),
-        SHAPE => say(b"SHAPE"),
-        VALUE => say(b"VALUE"),
-        PERM => say(b"PERM"),
-        KEY => say(b"KEY"),
-        ROOM => say(b"ROOM"),
-        DRAW => say(b"DRAW"),
-        STAGE => say(b"STAGE"),
-        WEAK => say(b"WEAK"),
-        FIRST => say(b"FIRST"),
-        SECOND => say(b"SECOND"),
-        _ => say(b"SELF"),
+pub fn name_of(reason: Reason) -> &'static [u8] {
+    match reason {
+        Reason::Short => b"SHORT",
+        Reason::Long => b"LONG",
+        Reason::Version => b"VERSION",
+        Reason::Kind => b"KIND",
+        Reason::Shape => b"SHAPE",
+        Reason::Value => b"VALUE",
+        Reason::Perm => b"PERM",
+        Reason::Key => b"KEY",
+        Reason::Room => b"ROOM",
+        Reason::Draw => b"DRAW",
+        Reason::Stage => b"STAGE",
+        Reason::Weak => b"WEAK",
+        Reason::First => b"FIRST",
+        Reason::Second => b"SECOND",
+        Reason::SelfCheck => b"SELF",
     }
 }
 
-pub fn say_buffer(buffer: u8) {
+pub fn buffer_name(buffer: Buffer) -> &'static [u8] {
     match buffer {
-        SYSTEM => say(b"the system"),
-        PUBLIC => say(b"the public key"),
-        SECRET => say(b"the secret key"),
-        CHOICES => say(b"the choices"),
-        COMMITMENTS => say(b"the commitments"),
-        CHALLENGES => say(b"the challenges"),
-        ANSWERS => say(b"the first answers"),
-        BITS => say(b"the bits"),
-        OPENINGS => say(b"the openings"),
-        RANDOM => say(b"the random bytes"),
-        _ => say(b"the output"),
+        Buffer::System => b"the system",
+        Buffer::Public => b"the public key",
+        Buffer::Secret => b"the secret key",
+        Buffer::Choices => b"the choices",
+        Buffer::Commitments => b"the commitments",
+        Buffer::Challenges => b"the challenges",
+        Buffer::Answers => b"the first answers",
+        Buffer::Bits => b"the bits",
+        Buffer::Openings => b"the openings",
+        Buffer::Random => b"the random bytes",
+        Buffer::NoBuffer | Buffer::Output => b"the output",
     }
 }
 
-pub fn say_stage(stage: u8) {
+// Any byte can stand for the stage of a record.
+pub fn stage_name(stage: u8) -> &'static [u8] {
     match stage {
-        IDLE => say(b"idle"),
-        COMMITTED => say(b"committed"),
-        ANSWERED => say(b"answered"),
-        CLOSED => say(b"closed"),
-        _ => say(b"none of idle, committed, answered and closed"),
+        IDLE => b"idle",
+        COMMITTED => b"committed",
+        ANSWERED => b"answered",
+        CLOSED => b"closed",
+        _ => b"none of idle, committed, answered and closed",
     }
 }

@@ -9,33 +9,109 @@ use native.Mathlib.Numerals.{add-one}
 use native.Mathlib.Decide.{ℕ_discrete}
 use native.Mathlib.Omega.{arith}
 use Rattle.refusals.specs.declared.Refusal.{Refusal}
-use Rattle.refusals.specs.declared.Checked.{Checked}
-use Rattle.refusals.specs.declared.Checked.TheVariants.{Fine, Refused}
-use Rattle.refusals.specs.Told.{Told, done, refused, fine, told, means, first, first_below, demand}
+use Rattle.std.specs.Prelude.{⊤, ◌-◌, get_or, ◌∷◌, Result, Ok, Err, IsErr, IsErrAnd}
+use Rattle.refusals.specs.declared.Reason.{Reason}
+use Rattle.refusals.specs.declared.Reason.TheVariants.{Short, Long, Version, Kind, Shape, Value, Perm, Key, Room, Draw, Stage, Weak, First, Second, SelfCheck}
+use Rattle.refusals.specs.declared.Buffer.{Buffer}
+use Rattle.refusals.specs.declared.Buffer.TheVariants.{NoBuffer, System, Public, Secret, Choices, Commitments, Challenges, Answers, Bits, Openings, Random, Output}
+use Rattle.refusals.specs.Number.{reason_number}
+use Rattle.refusals.specs.Buffer.{buffer_number}
+use Rattle.refusals.specs.Told.{Told, done, refused, fine, told, means, means_count, outcome, first, first_below, demand}
 
 -- ---- an answer is fixed by what it means: the way back
 
-answering : Told → Checked
-answering (done values) = Fine
-answering (refused number buffer place) = Refused (record { number = number; buffer = buffer; place = place })
+abbrev reasons : List Reason
+reasons = Short ∷ Long ∷ Version ∷ Kind ∷ Shape ∷ Value ∷ Perm ∷ Key ∷ Room ∷ Draw ∷ Stage ∷ Weak ∷ First ∷ Second ∷ SelfCheck ∷ []
 
-answering-means : (r : Checked) → answering (means r) ≡ r
-unfolding answering
-answering-means Fine = refl
-answering-means (Refused r) = refl
+abbrev buffers : List Buffer
+buffers = NoBuffer ∷ System ∷ Public ∷ Secret ∷ Choices ∷ Commitments ∷ Challenges ∷ Answers ∷ Bits ∷ Openings ∷ Random ∷ Output ∷ []
 
-pub means_fixes : (a b : Checked) → means a ≡ means b → a ≡ b
-means_fixes a b e = sym (answering-means a) ∙ ap answering e ∙ answering-means b
+-- reasons are numbered from 1
+abbrev reason_of : ℕ → Reason
+reason_of number = get_or reasons (number - 1) Short
+
+abbrev buffer_of : ℕ → Buffer
+buffer_of number = get_or buffers number NoBuffer
+
+reason-number : (r : Reason) → reason_of (reason_number r) ≡ r
+reason-number Short = refl
+reason-number Long = refl
+reason-number Version = refl
+reason-number Kind = refl
+reason-number Shape = refl
+reason-number Value = refl
+reason-number Perm = refl
+reason-number Key = refl
+reason-number Room = refl
+reason-number Draw = refl
+reason-number Stage = refl
+reason-number Weak = refl
+reason-number First = refl
+reason-number Second = refl
+reason-number SelfCheck = refl
+
+buffer-number : (b : Buffer) → buffer_of (buffer_number b) ≡ b
+buffer-number NoBuffer = refl
+buffer-number System = refl
+buffer-number Public = refl
+buffer-number Secret = refl
+buffer-number Choices = refl
+buffer-number Commitments = refl
+buffer-number Challenges = refl
+buffer-number Answers = refl
+buffer-number Bits = refl
+buffer-number Openings = refl
+buffer-number Random = refl
+buffer-number Output = refl
+
+-- the refusal of these numbers
+abbrev refusal_of : ℕ → ℕ → ℕ → Refusal
+refusal_of number buffer place = record { reason = reason_of number; buffer = buffer_of buffer; place = place }
+
+pub refusal-told : (r : Refusal) → refusal_of (reason_number r.reason) (buffer_number r.buffer) r.place ≡ r
+refusal-told r = rw (reason-number r.reason, buffer-number r.buffer) refl
+
+-- an answer by what it means, where `value` finds the value of a success in its list
+abbrev answering : {A : Type 0} → (List ℕ → A) → Told → Result A Refusal
+answering value (done values) = Ok (value values)
+answering value (refused number buffer place) = Err (refusal_of number buffer place)
+
+-- where the values that a success tells are enough to find it again, no second answer has the same meaning
+pub outcome_fixes : {A : Type 0} (values : A → List ℕ) (value : List ℕ → A) → ((x : A) → value (values x) ≡ x)
+    → (a b : Result A Refusal) → outcome values a ≡ outcome values b → a ≡ b
+outcome_fixes {A} values value back a b e = sym (found a) ∙ ap (answering value) e ∙ found b
+  where
+    found : (r : Result A Refusal) → answering value (outcome values r) ≡ r
+    found (Ok x) = ap Ok (back x)
+    found (Err r) = ap Err (refusal-told r)
+
+pub means_fixes : (a b : Result ⊤ Refusal) → means a ≡ means b → a ≡ b
+means_fixes = outcome_fixes (λ nothing. []) (λ values. tt) (λ nothing. refl)
+
+pub count_fixes : (a b : Result ℕ Refusal) → means_count a ≡ means_count b → a ≡ b
+count_fixes = outcome_fixes (λ n. n ∷ []) (λ values. get_or values 0 0) (λ n. refl)
 
 -- ---- a chain, as the code goes through it: `r` is a callee's answer and `a` what it has to mean
 
--- past a check that refuses nothing the rest of the chain counts
-pub goes_on : {r : Checked} {a b c : Told} → means r ≡ a → r ≡ Fine → c ≡ b → c ≡ first a b
-goes_on {b = b} m e n = n ∙ ap (λ (t : Told). first t b) (sym (ap means e) ∙ m)
+-- past an answer that refuses nothing the rest of the chain counts
+pub past : {A : Type 0} (values : A → List ℕ) {r : Result A Refusal} {a b c : Told} {x : A} → outcome values r ≡ a → r ≡ Ok x → c ≡ b → c ≡ first a b
+past values {b = b} m e n = n ∙ ap (λ (t : Told). first t b) (sym (ap (outcome values) e) ∙ m)
 
--- a check that refuses ends it, whatever was to come next
-pub stops : (b : Told) {r : Checked} {a : Told} {x : Refusal} → means r ≡ a → r ≡ Refused x → told x ≡ first a b
-stops b m e = ap (λ (t : Told). first t b) (sym (ap means e) ∙ m)
+-- an answer that refuses ends it, whatever was to come next
+pub ends : {A : Type 0} (values : A → List ℕ) (b : Told) {r : Result A Refusal} {a : Told} {x : Refusal} → outcome values r ≡ a → r ≡ Err x → told x ≡ first a b
+ends values b m e = ap (λ (t : Told). first t b) (sym (ap (outcome values) e) ∙ m)
+
+-- what a `?` hands on is the refusal that it got
+pub handed_on : {A : Type 0} {r : Result A Refusal} {x : Refusal} → IsErr r × IsErrAnd r (λ y. y ≡ x) → r ≡ Err x
+handed_on {r = Ok v} (e, h) = absurd h
+handed_on {r = Err y} (e, h) = ap Err h
+
+-- the same of a check
+pub goes_on : {r : Result ⊤ Refusal} {a b c : Told} {x : ⊤} → means r ≡ a → r ≡ Ok x → c ≡ b → c ≡ first a b
+goes_on = past (λ nothing. [])
+
+pub stops : (b : Told) {r : Result ⊤ Refusal} {a : Told} {x : Refusal} → means r ≡ a → r ≡ Err x → told x ≡ first a b
+stops = ends (λ nothing. [])
 
 -- ---- what the outcome of a chain says of its links
 

@@ -2,7 +2,9 @@
 use mathlib.Core.Path.{◌≡◌, refl}
 use mathlib.Core.Bool.{true, false}
 use mathlib.Core.List.{[], ◌∷◌}
-use Rattle.refusals.specs.declared.Checked.TheVariants.{Fine, Refused}
+use Rattle.std.specs.Prelude.{Ok, Err}
+use Rattle.refusals.specs.declared.Reason.TheVariants.{Shape}
+use Rattle.refusals.specs.declared.Buffer.TheVariants.{NoBuffer}
 use Rattle.refusals.specs.Number.{SHAPE, VALUE, ROOM}
 use Rattle.refusals.specs.Buffer.{NONE, SYSTEM, OUTPUT}
 use Rattle.refusals.specs.Told.{Told, done, refused, fine, means, first, demand}
@@ -23,8 +25,8 @@ the_last_is_reached : chain (demand true SHAPE NONE 0) fine (demand false ROOM O
 unfolding chain
 the_last_is_reached = refl
 
-a_check_that_passes : means Fine ≡ done []
+a_check_that_passes : means (Ok tt) ≡ done []
 a_check_that_passes = refl
 
-a_check_that_refuses : means (Refused (record { number = SHAPE; buffer = NONE; place = 0 })) ≡ refused 5 0 0
+a_check_that_refuses : means (Err (record { reason = Shape; buffer = NoBuffer; place = 0 })) ≡ refused 5 0 0
 a_check_that_refuses = refl

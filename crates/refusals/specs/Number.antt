@@ -1,5 +1,7 @@
 -- The refusals by document 01's numbers.
 use Rattle.std.specs.Prelude.{ℕ}
+use Rattle.refusals.specs.declared.Reason.{Reason}
+use Rattle.refusals.specs.declared.Reason.TheVariants.{Short, Long, Version, Kind, Shape, Value, Perm, Key, Room, Draw, Stage, Weak, First, Second, SelfCheck}
 
 abbrev pub SHORT : ℕ
 SHORT = 1
@@ -45,3 +47,21 @@ SECOND = 14
 
 abbrev pub SELF : ℕ
 SELF = 15
+
+-- the number of a reason
+abbrev pub reason_number : Reason → ℕ
+reason_number Short = SHORT
+reason_number Long = LONG
+reason_number Version = VERSION
+reason_number Kind = KIND
+reason_number Shape = SHAPE
+reason_number Value = VALUE
+reason_number Perm = PERM
+reason_number Key = KEY
+reason_number Room = ROOM
+reason_number Draw = DRAW
+reason_number Stage = STAGE
+reason_number Weak = WEAK
+reason_number First = FIRST
+reason_number Second = SECOND
+reason_number SelfCheck = SELF

@@ -1,8 +1,8 @@
 -- What a call tells its caller, in document 01's terms.
-use Rattle.std.specs.Prelude.{Bool, true, false, List, [], ℕ, zero, suc}
+use Rattle.std.specs.Prelude.{Bool, true, false, List, [], ◌∷◌, ℕ, zero, suc, ⊤, Result, Ok, Err}
 use Rattle.refusals.specs.declared.Refusal.{Refusal}
-use Rattle.refusals.specs.declared.Checked.{Checked}
-use Rattle.refusals.specs.declared.Checked.TheVariants.{Fine, Refused}
+use Rattle.refusals.specs.Number.{reason_number}
+use Rattle.refusals.specs.Buffer.{buffer_number}
 
 -- a success with its values, or a refusal: its number, buffer and place
 pub data Told : Type 0 where
@@ -14,12 +14,19 @@ abbrev pub fine : Told
 fine = done []
 
 abbrev pub told : Refusal → Told
-told r = refused r.number r.buffer r.place
+told r = refused (reason_number r.reason) (buffer_number r.buffer) r.place
 
--- what the answer of a check means
-abbrev pub means : Checked → Told
-means Fine = fine
-means (Refused r) = told r
+-- what an answer means, by the values that a success tells
+abbrev pub outcome : {A : Type 0} → (A → List ℕ) → Result A Refusal → Told
+outcome values (Ok x) = done (values x)
+outcome values (Err r) = told r
+
+-- that of a check, and of a call that counts: the bytes written or used, or the rounds accepted
+abbrev pub means : Result ⊤ Refusal → Told
+means = outcome (λ nothing. [])
+
+abbrev pub means_count : Result ℕ Refusal → Told
+means_count = outcome (λ n. n ∷ [])
 
 -- the first refusal of a chain: what comes next counts only where this refuses nothing
 abbrev pub first : Told → Told → Told

@@ -2,13 +2,13 @@
 #![tactic(auto)]
 
 ghost use Rattle.std.specs.Prelude.{◌≡◌, get_or, drop};
+ghost use Rattle.refusals.specs.Told.{means_count};
 ghost use Rattle.register_input.specs.Cutting.{front, behind, Ends, judging_input};
-ghost use Rattle.register_rules.specs.Verdict.{verdict_means};
 
-use algebra::wide;
 use frames::read::count_of;
+use refusals::Refusal;
 use register::decide::verdict;
-use register_rules::Verdict;
+use register_rules::SignOn;
 
 // Where the frame in front ends.
 fn front_end(s: &[u8]) -> usize
@@ -17,67 +17,45 @@ fn front_end(s: &[u8]) -> usize
     if s.len() < 2 {
         return s.len();
     }
-    let whole = count_of(s) + 2;
-    if s.len() < whole {
-        return s.len();
+    s.len().min(count_of(s) + 2)
+}
+
+// The frame in front, and what is behind it.
+fn cut(s: &[u8]) -> (&[u8], &[u8])
+    ensures { (result.0.now ≡ front s.now) × (result.1.now ≡ behind s.now) }
+{
+    s.split_at(front_end(s))
+}
+
+// The grade, and the frames behind it.
+fn grade_and_frames(input: &[u8]) -> (usize, &[u8])
+    ensures { (result.0 ≡ get_or input.now 0 0) × (result.1.now ≡ drop 1 input.now) }
+{
+    match input.split_first() {
+        Some((grade, frames)) => (usize::from(*grade), frames),
+        None => (0, input),
     }
-    whole
-}
-
-// The frame in front.
-fn front(s: &[u8]) -> &[u8]
-    ensures { result.now ≡ front s.now }
-{
-    let end = front_end(s);
-    &s[..end]
-}
-
-// What is behind it.
-fn behind(s: &[u8]) -> &[u8]
-    ensures { result.now ≡ behind s.now }
-{
-    let end = front_end(s);
-    &s[end..]
-}
-
-fn grade_of(input: &[u8]) -> usize
-    ensures { result ≡ get_or input.now 0 0 }
-{
-    if input.len() == 0 {
-        return 0;
-    }
-    wide(input[0])
-}
-
-// What is behind the grade.
-fn frames_of(input: &[u8]) -> &[u8]
-    ensures { result.now ≡ drop 1 input.now }
-{
-    if input.len() == 0 {
-        return &input[..0];
-    }
-    &input[1..]
 }
 
 // The verdict over an input.
-pub fn judge(input: &[u8]) -> Verdict
-    ensures { verdict_means result ≡ judging_input input.now }
+pub fn judge(input: &[u8]) -> Result<usize, Refusal>
+    ensures { means_count result ≡ judging_input input.now }
 {
-    let system = frames_of(input);
-    let key = behind(system);
-    let commitments = behind(key);
-    let challenges = behind(commitments);
-    let answers = behind(challenges);
-    let bits = behind(answers);
-    let openings = behind(bits);
-    verdict(
-        grade_of(input),
-        front(system),
-        front(key),
-        front(commitments),
-        front(challenges),
-        front(answers),
-        front(bits),
+    let (grade, frames) = grade_and_frames(input);
+    let (system, rest) = cut(frames);
+    let (key, rest) = cut(rest);
+    let (commitments, rest) = cut(rest);
+    let (challenges, rest) = cut(rest);
+    let (answers, rest) = cut(rest);
+    let (bits, openings) = cut(rest);
+    let x = SignOn {
+        system,
+        key,
+        commitments,
+        challenges,
+        answers,
+        bits,
         openings,
-    )
+    };
+    verdict(grade, &x)
 }

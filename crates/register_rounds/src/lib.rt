@@ -1,88 +1,55 @@
 // The verdict of the rounds: all pass, or the first that does not is refused by its bit.
 #![tactic(auto)]
 
-ghost use Rattle.std.specs.Prelude.{◌≡◌};
-ghost use Rattle.register_rules.specs.Verdict.{sign_on, SignOnFits, rounds_passed, number_of, rounds_check, verdict_means};
+ghost use Rattle.std.specs.Prelude.{◌≡◌, ◌<◌, unwrap_or, IfSome};
+ghost use Rattle.refusals.specs.Number.{reason_number};
+ghost use Rattle.refusals.specs.Told.{means_count};
+ghost use Rattle.register_rules.specs.Verdict.{SignOnFits, rounds_in, rounds_passed, number_of, rounds_check};
+ghost use Rattle.register_rules.specs.Parts.{as_sign_on};
 
-use algebra::wide;
-use kinds::{AFTER_ONE, AFTER_TWO, FIRST_NUMBER, SECOND_NUMBER};
+use kinds::{AFTER_ONE, AFTER_TWO, FIRST_NUMBER};
 use packed_bits::bit_at;
-use refusals::Refusal;
-use refusals::buffer::OPENINGS;
-use refusals::number::{FIRST, SECOND};
-use register_rules::Verdict;
+use readers::matrix_of;
+use refusals::{Buffer, Reason, Refusal, refuse};
+use register_rules::SignOn;
+use rounds::Messages;
 use rounds::register::first_failing;
 
-// The first round that does not pass, N where all do.
-fn rounds_passed(
-    system: &[u8],
-    key: &[u8],
-    commitments: &[u8],
-    challenges: &[u8],
-    answers: &[u8],
-    bits: &[u8],
-    openings: &[u8],
-) -> usize
-    requires { SignOnFits (sign_on system.now key.now commitments.now challenges.now answers.now bits.now openings.now) }
-    ensures { result ≡ rounds_passed (sign_on system.now key.now commitments.now challenges.now answers.now bits.now openings.now) }
+// The first round that does not pass.
+fn failing_round(x: &SignOn) -> Option<usize>
+    requires { SignOnFits (as_sign_on x.now) }
+    ensures first { unwrap_or result (rounds_in (as_sign_on x.now)) ≡ rounds_passed (as_sign_on x.now) }
+    ensures below { IfSome result (λ k. k < rounds_in (as_sign_on x.now)) }
 {
-    let n = wide(system[FIRST_NUMBER]);
-    let m = wide(system[SECOND_NUMBER]);
-    let rounds = wide(commitments[FIRST_NUMBER]);
-    first_failing(
-        &system[AFTER_TWO..],
-        n,
-        m,
-        &key[AFTER_ONE..],
-        &commitments[AFTER_ONE..],
-        &challenges[AFTER_ONE..],
-        &answers[AFTER_TWO..],
-        &bits[AFTER_ONE..],
-        &openings[AFTER_TWO..],
-        rounds,
-    )
+    let a = matrix_of(x.system);
+    let messages = Messages {
+        commitments: &x.commitments[AFTER_ONE..],
+        challenges: &x.challenges[AFTER_ONE..],
+        answers: &x.answers[AFTER_TWO..],
+        bits: &x.bits[AFTER_ONE..],
+        openings: &x.openings[AFTER_TWO..],
+    };
+    let rounds = usize::from(x.commitments[FIRST_NUMBER]);
+    first_failing(&a, &x.key[AFTER_ONE..], &messages, rounds)
 }
 
-// The number of the refusal where a round of the bit does not pass.
-fn number_of(bit: bool) -> u8
-    ensures { result ≡ number_of bit }
+// Why a sign-on is refused where a round of the bit does not pass.
+fn reason_of(bit: bool) -> Reason
+    ensures { reason_number result ≡ number_of bit }
 {
-    if bit {
-        return SECOND;
-    }
-    FIRST
+    if bit { Reason::Second } else { Reason::First }
 }
 
 // The verdict of the rounds, once the frames fit.
-pub fn judge_rounds(
-    system: &[u8],
-    key: &[u8],
-    commitments: &[u8],
-    challenges: &[u8],
-    answers: &[u8],
-    bits: &[u8],
-    openings: &[u8],
-) -> Verdict
-    requires { SignOnFits (sign_on system.now key.now commitments.now challenges.now answers.now bits.now openings.now) }
-    ensures { verdict_means result ≡ rounds_check (sign_on system.now key.now commitments.now challenges.now answers.now bits.now openings.now) }
+pub fn judge_rounds(x: &SignOn) -> Result<usize, Refusal>
+    requires { SignOnFits (as_sign_on x.now) }
+    ensures { means_count result ≡ rounds_check (as_sign_on x.now) }
 {
-    let rounds = wide(commitments[FIRST_NUMBER]);
-    let passed = rounds_passed(
-        system,
-        key,
-        commitments,
-        challenges,
-        answers,
-        bits,
-        openings,
-    );
-    if passed == rounds {
-        return Verdict::Accepted(rounds);
+    match failing_round(x) {
+        None => Ok(usize::from(x.commitments[FIRST_NUMBER])),
+        Some(k) => {
+            let bit = bit_at(&x.bits[AFTER_ONE..], k);
+            refuse(reason_of(bit), Buffer::Openings, k)
+        }
     }
-    let bit = bit_at(&bits[AFTER_ONE..], passed);
-    Verdict::Refused(Refusal {
-        number: number_of(bit),
-        buffer: OPENINGS,
-        place: passed,
-    })
 }

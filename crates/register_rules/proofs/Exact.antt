@@ -1,6 +1,7 @@
 -- The exact verdict, both ways, for every grade and all bytes lent. Accepted N: every frame is well formed and agrees with the earlier ones,
 -- N suffices for the grade, and every round passes. FIRST or SECOND at r: frames and grade as before, the rounds below r pass and round r,
 -- which is of that bit, does not.
+use Rattle.std.specs.Prelude.{Result, Ok, Err}
 use mathlib.Core.Path.{◌≡◌, refl, sym, ap, ◌∙◌, subst}
 use mathlib.Core.Bool.{Bool, true, false, cond, false≢true}
 use mathlib.Core.List.{List, [], ◌∷◌}
@@ -12,22 +13,22 @@ use borrow.Author.Tests.{eqb-true, eq-eqb, ne_eqb, not-false, not-true}
 use lib.Dec.{eqb}
 use lib.ListN.{get_or}
 use Rattle.refusals.specs.declared.Refusal.{Refusal}
-use Rattle.refusals.specs.Number.{PERM, WEAK}
-use Rattle.refusals.specs.Buffer.{NONE, OPENINGS}
-use Rattle.refusals.specs.Told.{Told, done, refused, fine, first, demand}
-use Rattle.refusals.proofs.Chain.{Passed, first_done, first_refused, demand_done, UpTo, done_most, demand-most, first-most}
+use Rattle.refusals.specs.declared.Reason.{Reason}
+use Rattle.refusals.specs.declared.Reason.TheVariants.{First, Second}
+use Rattle.refusals.specs.declared.Buffer.TheVariants.{Openings as OpeningsBuffer}
+use Rattle.refusals.specs.Number.{PERM, WEAK, reason_number}
+use Rattle.refusals.specs.Buffer.{NONE, OPENINGS, buffer_number}
+use Rattle.refusals.specs.Told.{Told, done, refused, fine, first, demand, means_count}
+use Rattle.refusals.proofs.Chain.{count_fixes, Passed, first_done, first_refused, demand_done, UpTo, done_most, demand-most, first-most}
 use Rattle.kinds.specs.declared.Kind.TheVariants.{System, Public, Commitments, Challenges, Answers, Bits, Openings}
 use Rattle.kinds.specs.Kinds.{alone, of_places, exactly}
 use Rattle.frames.specs.Reading.{reading}
 use Rattle.frames.proofs.Facts.{fits_read, test_holds, rest_done}
 use Rattle.readers.proofs.Outcomes.{reading-most}
 use Rattle.rounds.proofs.Runs.{failing_found, all_pass}
-use Rattle.register_rules.specs.declared.Verdict.{Verdict}
-use Rattle.register_rules.specs.declared.Verdict.TheVariants.{Accepted, Refused}
-use Rattle.register_rules.specs.Verdict.{SignOn, places_in, rounds_in, basis_check, exchange_check, frames_check, enough, system_in, vector_in, messages_in, bit_in, round_passes, rounds_passed, number_of, rounds_check, judging, verdict_means, Judges}
+use Rattle.register_rules.specs.Verdict.{SignOn, places_in, rounds_in, basis_check, exchange_check, frames_check, enough, system_in, vector_in, messages_in, bit_in, round_passes, rounds_passed, number_of, rounds_check, judging, Judges}
 use Rattle.register_rules.proofs.Orders.{in_order}
 use Rattle.register_rules.proofs.Facts.{FramesFit, frames-told}
-use Rattle.register_rules.proofs.Outcomes.{verdict_fixes}
 
 -- when a sign-on is accepted
 pub record Accepts (grade : ℕ) (x : SignOn) : Type 0 where
@@ -206,21 +207,31 @@ module _ (grade : ℕ) (x : SignOn) where
 
 -- ---- the same of the call's answer
 
-module _ (grade : ℕ) (x : SignOn) (answer : Verdict) (j : Judges grade x answer) where
-  pub answer-accepted→ : (N : ℕ) → answer ≡ Accepted N → (N ≡ rounds_in x) × Accepts grade x
+-- what the code calls FIRST and SECOND
+abbrev pub reason_of : Bool → Reason
+reason_of false = First
+reason_of true = Second
+
+reason-told : (bit : Bool) → number_of bit ≡ reason_number (reason_of bit)
+reason-told false = refl
+reason-told true = refl
+
+module _ (grade : ℕ) (x : SignOn) (answer : Result ℕ Refusal) (j : Judges grade x answer) where
+  pub answer-accepted→ : (N : ℕ) → answer ≡ Ok N → (N ≡ rounds_in x) × Accepts grade x
   answer-accepted→ N e =
-      let a = accepted→ grade x (N ∷ []) (sym j.says ∙ ap verdict_means e) in
+      let a = accepted→ grade x (N ∷ []) (sym j.says ∙ ap means_count e) in
       (sym (ap (λ (v : List ℕ). get_or v 0 0) a.0), a.1)
 
-  pub answer-accepted← : Accepts grade x → answer ≡ Accepted (rounds_in x)
-  answer-accepted← h = verdict_fixes answer (Accepted (rounds_in x)) (j.says ∙ accepted← grade x h)
+  pub answer-accepted← : Accepts grade x → answer ≡ Ok (rounds_in x)
+  answer-accepted← h = count_fixes answer (Ok (rounds_in x)) (j.says ∙ accepted← grade x h)
 
-  pub answer-failed→ : (bit : Bool) (refusal : Refusal) → refusal.number ≡ number_of bit → answer ≡ Refused refusal
-      → (OPENINGS ≡ refusal.buffer) × Fails grade x bit refusal.place
+  pub answer-failed→ : (bit : Bool) (refusal : Refusal) → reason_number refusal.reason ≡ number_of bit → answer ≡ Err refusal
+      → (OPENINGS ≡ buffer_number refusal.buffer) × Fails grade x bit refusal.place
   answer-failed→ bit refusal n e =
-      failed→ grade x bit refusal.buffer refusal.place
-      (sym j.says ∙ ap verdict_means e ∙ ap (λ (k : ℕ). refused k refusal.buffer refusal.place) n)
+      failed→ grade x bit (buffer_number refusal.buffer) refusal.place
+      (sym j.says ∙ ap means_count e ∙ ap (λ (k : ℕ). refused k (buffer_number refusal.buffer) refusal.place) n)
 
-  pub answer-failed← : (bit : Bool) (r : ℕ) → Fails grade x bit r → answer ≡ Refused (record { number = number_of bit; buffer = OPENINGS; place = r })
+  pub answer-failed← : (bit : Bool) (r : ℕ) → Fails grade x bit r → answer ≡ Err (record { reason = reason_of bit; buffer = OpeningsBuffer; place = r })
   answer-failed← bit r h =
-      verdict_fixes answer (Refused (record { number = number_of bit; buffer = OPENINGS; place = r })) (j.says ∙ failed← grade x bit r h)
+      count_fixes answer (Err (record { reason = reason_of bit; buffer = OpeningsBuffer; place = r }))
+      (j.says ∙ failed← grade x bit r h ∙ ap (λ (k : ℕ). refused k OPENINGS r) (reason-told bit))

@@ -1,7 +1,7 @@
 -- What frames that are refused nothing say, as plain facts.
 use mathlib.Core.Path.{◌≡◌, refl, ap, ap₂, ◌∙◌, subst}
 use mathlib.Core.List.{List}
-use Prim.Native.Nat.{ℕ, ◌*◌, ◌/◌, ◌≤◌, ◌<◌}
+use Prim.Native.Nat.{ℕ, ◌*◌, ◌≤◌}
 use native.Mathlib.Nat.{mul_comm}
 use native.Mathlib.Omega.{arith}
 use lib.ListN.{length}
@@ -21,8 +21,7 @@ use Rattle.readers.proofs.Chosen.{values-told, permutations-told}
 use Rattle.scheme.specs.Round.{system_of}
 use Rattle.rounds.specs.Layout.{Messages, messages, MessagesFit}
 use Rattle.rounds.specs.Rounds.{first_failing}
-use Rattle.rounds.proofs.Runs.{failing_found}
-use Rattle.register_rules.specs.Verdict.{SignOn, places_in, rounds_in, basis_check, exchange_check, frames_check, system_in, vector_in, messages_in, rounds_passed, SignOnFits}
+use Rattle.register_rules.specs.Verdict.{SignOn, places_in, rounds_in, basis_check, exchange_check, frames_check, messages_in, rounds_passed, SignOnFits}
 
 -- ---- every frame is well formed and agrees with the earlier ones
 
@@ -162,25 +161,17 @@ parts-messages x =
       rest_part Openings x.openings 6 refl,
     )
 
-module _ (x : SignOn) (n m N : ℕ) (p : n ≡ places_in x) (q : m ≡ second_of System x.system) (r : N ≡ rounds_in x) where
-  pub parts_fit : SignOnFits x → SystemFits (from 6 x.system) n m × (length (from 5 x.key) ≡ n) × MessagesFit n N (parts x)
+module _ (x : SignOn) (a : List ℕ) (n m N : ℕ) (o : a ≡ rest_of System x.system) (p : n ≡ places_in x) (q : m ≡ second_of System x.system) (r : N ≡ rounds_in x) where
+  pub parts_fit : SignOnFits x → SystemFits a n m × (length (from 5 x.key) ≡ n) × MessagesFit n N (parts x)
   parts_fit h = (
-    rw (rest_part System x.system 6 refl, p, q) h.system_fits,
+    rw (o, p, q) h.system_fits,
     rw (rest_part Public x.key 5 refl, p) h.vector_fits,
     rw (parts-messages x, p, r) h.messages_fit,
   )
 
-  pub parts_passed : first_failing (system_of (from 6 x.system) n m) (from 5 x.key) (parts x) N ≡ rounds_passed x
-  parts_passed = rw (rest_part System x.system 6 refl, rest_part Public x.key 5 refl, parts-messages x, p, q, r)
+  pub parts_passed : first_failing (system_of a n m) (from 5 x.key) (parts x) N ≡ rounds_passed x
+  parts_passed = rw (o, rest_part Public x.key 5 refl, parts-messages x, p, q, r)
 
 -- the bit of a round, as the code cuts it
 pub bit_cut : (bits : List ℕ) (k : ℕ) → bit_at (from 5 bits) k ≡ bit_at (rest_of Bits bits) k
 bit_cut bits k = ap (λ (s : List ℕ). bit_at s k) (rest_part Bits bits 5 refl)
-
--- the round that does not pass has one
-pub bit-there : (x : SignOn) (passed N : ℕ) → SignOnFits x → passed ≡ rounds_passed x → N ≡ rounds_in x → (passed ≡ N → ⊥) → passed / 8 < length (from 5 x.bits)
-bit-there x passed N h e q f =
-    let m = (failing_found (system_in x) (vector_in x) (messages_in x) (rounds_in x)).most in
-    let b = h.messages_fit.bits in
-    let z = ap length (rest_part Bits x.bits 5 refl) in
-    omega arith

@@ -1,4 +1,5 @@
 -- Laws of the order of refusals, an answer each, as the code finds them. The frames have theirs in crate `frames`.
+use Rattle.std.specs.Prelude.{⊤, Result, Ok, Err}
 use mathlib.Core.Path.{◌≡◌, refl, sym, ap, ◌∙◌}
 use mathlib.Core.Bool.{true, false}
 use mathlib.Core.List.{[], ◌∷◌}
@@ -6,8 +7,6 @@ use Prim.Native.Nat.{ℕ}
 use borrow.Author.Tests.{eq-eqb, ne_eqb}
 use lib.Dec.{leb}
 use Rattle.refusals.specs.declared.Refusal.{Refusal}
-use Rattle.refusals.specs.declared.Checked.{Checked}
-use Rattle.refusals.specs.declared.Checked.TheVariants.{Fine, Refused}
 use Rattle.refusals.specs.Number.{WEAK}
 use Rattle.refusals.specs.Buffer.{NONE, OPENINGS}
 use Rattle.refusals.specs.Told.{Told, done, refused, told, means, first, demand}
@@ -35,10 +34,10 @@ pub in_order : (grade : ℕ) (x : SignOn) → judging grade x ≡ first (frames_
 unfolding judging
 in_order grade x = refl
 
-pub bad_frames : (grade : ℕ) (x : SignOn) (frames : Checked) (r : Refusal) → means frames ≡ frames_check x → frames ≡ Refused r → told r ≡ judging grade x
+pub bad_frames : (grade : ℕ) (x : SignOn) (frames : Result ⊤ Refusal) (r : Refusal) → means frames ≡ frames_check x → frames ≡ Err r → told r ≡ judging grade x
 bad_frames grade x frames r m e = stops _ m e ∙ sym (in_order grade x)
 
-module _ (grade : ℕ) (x : SignOn) (frames : Checked) (m : means frames ≡ frames_check x) (e : frames ≡ Fine) where
+module _ (grade : ℕ) (x : SignOn) (frames : Result ⊤ Refusal) (m : means frames ≡ frames_check x) (e : frames ≡ (Ok tt)) where
   pub too_weak : enough grade (rounds_in x) ≡ false → refused WEAK NONE 0 ≡ judging grade x
   too_weak t = goes_on m e (rw t) ∙ sym (in_order grade x)
 

@@ -1,37 +1,24 @@
 -- No second outcome fits what the verdict promises. It is lent nothing to write to. And what it tells.
-use mathlib.Core.Path.{◌≡◌, refl, sym, ap, ◌∙◌}
+use Rattle.refusals.specs.declared.Refusal.{Refusal}
+use Rattle.std.specs.Prelude.{Result}
+use mathlib.Core.Path.{◌≡◌, sym, ◌∙◌}
 use mathlib.Core.Bool.{Bool, true, false, cond}
 use mathlib.Core.List.{List, [], ◌∷◌}
 use Prim.Native.Nat.{ℕ, ◌≤◌}
 use native.Mathlib.Omega.{arith}
 use lib.Dec.{eqb}
-use lib.ListN.{get_or}
 use Rattle.refusals.specs.Number.{WEAK, SECOND}
 use Rattle.refusals.specs.Buffer.{NONE, OPENINGS}
 use Rattle.refusals.specs.Told.{Told, done, refused, fine, first, demand}
-use Rattle.refusals.proofs.Chain.{UpTo, first_done, done_most, first-most, test_most}
+use Rattle.refusals.proofs.Chain.{count_fixes, UpTo, first_done, done_most, first-most, test_most}
 use Rattle.kinds.specs.declared.Kind.TheVariants.{System, Public, Commitments, Challenges, Answers, Bits, Openings}
 use Rattle.kinds.specs.Kinds.{alone, of_places, exactly}
 use Rattle.frames.specs.Reading.{reading}
 use Rattle.readers.proofs.Outcomes.{frame-most}
-use Rattle.register_rules.specs.declared.Verdict.{Verdict}
-use Rattle.register_rules.specs.declared.Verdict.TheVariants.{Accepted, Refused}
-use Rattle.register_rules.specs.Verdict.{SignOn, places_in, rounds_in, basis_check, exchange_check, frames_check, enough, bit_in, rounds_passed, number_of, rounds_check, judging, verdict_means, Judges}
+use Rattle.register_rules.specs.Verdict.{SignOn, places_in, rounds_in, basis_check, exchange_check, frames_check, enough, bit_in, rounds_passed, number_of, rounds_check, judging, Judges}
 
-answering : Told → Verdict
-answering (done values) = Accepted (get_or values 0 0)
-answering (refused number buffer place) = Refused (record { number = number; buffer = buffer; place = place })
-
-answering-means : (a : Verdict) → answering (verdict_means a) ≡ a
-unfolding answering
-answering-means (Accepted rounds) = refl
-answering-means (Refused r) = refl
-
-pub verdict_fixes : (a b : Verdict) → verdict_means a ≡ verdict_means b → a ≡ b
-verdict_fixes a b e = sym (answering-means a) ∙ ap answering e ∙ answering-means b
-
-pub one_verdict : (grade : ℕ) (x : SignOn) (a b : Verdict) → Judges grade x a → Judges grade x b → a ≡ b
-one_verdict grade x a b p q = verdict_fixes a b (p.says ∙ sym q.says)
+pub one_verdict : (grade : ℕ) (x : SignOn) (a b : Result ℕ Refusal) → Judges grade x a → Judges grade x b → a ≡ b
+one_verdict grade x a b p q = count_fixes a b (p.says ∙ sym q.says)
 
 -- ---- what the verdict tells: one value, N, or a refusal by the numbers up to SECOND
 

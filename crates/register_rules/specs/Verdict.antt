@@ -1,8 +1,9 @@
 -- The register's verdict (document 01, "One round" and "Refusal numbers").
-use Rattle.std.specs.Prelude.{◌≡◌, Bool, true, false, cond, ◌&&◌, ◌||◌, List, [], ◌∷◌, ℕ, ◌≤◌, eqb, leb, length}
+use Rattle.refusals.specs.declared.Refusal.{Refusal}
+use Rattle.std.specs.Prelude.{◌≡◌, Bool, true, false, cond, ◌&&◌, ◌||◌, List, [], ◌∷◌, ℕ, ◌≤◌, eqb, leb, length, Result}
 use Rattle.refusals.specs.Number.{WEAK, FIRST, SECOND}
 use Rattle.refusals.specs.Buffer.{NONE, OPENINGS}
-use Rattle.refusals.specs.Told.{Told, done, refused, told, fine, first, demand}
+use Rattle.refusals.specs.Told.{Told, done, refused, fine, first, demand, means_count}
 use Rattle.matrices.specs.Matrices.{SystemFits}
 use Rattle.kinds.specs.declared.Kind.TheVariants.{System, Public, Commitments, Challenges, Answers, Bits, Openings}
 use Rattle.kinds.specs.Kinds.{alone, of_places, exactly}
@@ -11,8 +12,6 @@ use Rattle.packed_bits.specs.PackedBits.{bit_at}
 use Rattle.scheme.specs.Round.{System as SystemOf, system_of}
 use Rattle.rounds.specs.Layout.{Messages, messages, MessagesFit}
 use Rattle.rounds.specs.Rounds.{passes_at, first_failing}
-use Rattle.register_rules.specs.declared.Verdict.{Verdict}
-use Rattle.register_rules.specs.declared.Verdict.TheVariants.{Accepted, Refused}
 
 -- what the register is lent: the frames of kinds 1, 2 and 4 to 8
 pub record SignOn : Type 0 where
@@ -105,14 +104,9 @@ rounds_check x =
 unfoldable pub judging : ℕ → SignOn → Told
 judging grade x = first (frames_check x) (first (demand (enough grade (rounds_in x)) WEAK NONE 0) (rounds_check x))
 
--- what a verdict means
-abbrev pub verdict_means : Verdict → Told
-verdict_means (Accepted rounds) = done (rounds ∷ [])
-verdict_means (Refused r) = told r
-
 -- what the verdict promises; it writes nothing
-pub record Judges (grade : ℕ) (x : SignOn) (answer : Verdict) : Type 0 where
-  pub says : verdict_means answer ≡ judging grade x
+pub record Judges (grade : ℕ) (x : SignOn) (answer : Result ℕ Refusal) : Type 0 where
+  pub says : means_count answer ≡ judging grade x
 
 -- ---- what the code asks of frames before it looks at rounds
 

@@ -1,11 +1,15 @@
-// The verdict by definition, and that it is exact. They stand in specs/ and proofs/; the code stands in the crates `register_rounds` and `register`.
+// The sign-on that the register is lent, the verdict over it by definition, and that it is exact. The definitions and the proofs stand in specs/ and proofs/;
+// the code that judges stands in the crates `register_rounds` and `register`.
 #![tactic(auto)]
 
-use refusals::Refusal;
-
-// What the register answers: the rounds of an accepted sign-on, or why it is refused.
+// The seven frames of a sign-on, of kinds 1, 2 and 4 to 8: the system, the public key and the messages.
 #[derive(Clone, Copy)]
-pub enum Verdict {
-    Accepted(usize),
-    Refused(Refusal),
+pub struct SignOn<'a> {
+    pub system: &'a [u8],
+    pub key: &'a [u8],
+    pub commitments: &'a [u8],
+    pub challenges: &'a [u8],
+    pub answers: &'a [u8],
+    pub bits: &'a [u8],
+    pub openings: &'a [u8],
 }

@@ -2,8 +2,6 @@
 // what is to be printed, and says how both are spelt.
 #![tactic(auto)]
 
-ghost use Rattle.io.specs.Counts.{IsPrefixLen};
-
 use crate::replay::replay;
 use replay_cases::case::big_endian;
 
@@ -15,38 +13,25 @@ const STDIN: i32 = 0;
 // A proved loop has to end, and nothing says that the input does: no run has so many cases.
 const MOST_CASES: usize = 1000000;
 
-// Reads a case into the space and answers its length, 0 where no whole case is left or the space is too small.
-fn read_case(space: &mut [u8]) -> usize
-    ensures { IsPrefixLen result space.new }
-{
-    let mut heading = [0u8; 4];
-    if io::read_full(STDIN, &mut heading) < 4 {
-        return 0;
+// Reads the next case into the space; None where no whole case is left, the space is too small, or the case is empty.
+fn read_case(space: &mut [u8]) -> Option<&[u8]> {
+    let mut heading = [0; 4];
+    if io::read_full(STDIN, &mut heading) < heading.len() {
+        return None;
     }
-    let size = big_endian(&heading);
-    if space.len() < size {
-        return 0;
+    let case = space.get_mut(..big_endian(&heading))?;
+    if case.is_empty() || io::read_full(STDIN, case) < case.len() {
+        return None;
     }
-    if io::read_full(STDIN, &mut space[..size]) < size {
-        return 0;
-    }
-    size
-}
-
-// Replays the next case and answers whether there was one.
-fn replay_next(index: usize) -> bool {
-    let mut space = [0u8; 131072];
-    let size = read_case(&mut space);
-    if size == 0 {
-        return false;
-    }
-    replay(index, &space[..size]);
-    true
+    Some(case)
 }
 
 fn main() {
-    let mut index: usize = 0;
-    while index < MOST_CASES && replay_next(index) {
-        index += 1;
+    let mut space = [0; 131072];
+    for index in 0..MOST_CASES {
+        match read_case(&mut space) {
+            Some(case) => replay(index, case),
+            None => break,
+        }
     }
 }

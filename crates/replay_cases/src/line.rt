@@ -1,96 +1,79 @@
 // The words of a line.
-use algebra::wide;
-use draw_rules::Taken;
-use frames::read::Read;
-use hosting::text::STDOUT;
-use refusals::{Checked, Refusal};
-use register_rules::Verdict;
-use writers::Written;
+use frames::read::Frame;
+use hosting::text::{STDOUT, say, say_hex, say_with};
+use refusals::Refusal;
 
 // The most bytes that are printed one by one.
 const SHOWN_WHOLE: usize = 40;
 
+// The greatest prime below 2^16.
+const ADLER_MODULUS: u32 = 65521;
+
+// What a call answers that is not refused.
+pub trait Answer {
+    fn tell(self);
+}
+
+impl Answer for () {
+    fn tell(self) {}
+}
+
+impl Answer for usize {
+    fn tell(self) {
+        tell_number(self);
+    }
+}
+
+impl Answer for Frame {
+    fn tell(self) {
+        tell_number(self.first);
+        tell_number(self.second);
+        tell_number(self.start);
+    }
+}
+
 pub fn tell_number(x: usize) {
-    io::write_all(STDOUT, b" ");
-    io::print_decimal(STDOUT, x as u64);
+    say_with(b" ", x);
 }
 
 pub fn tell_done() {
-    io::write_all(STDOUT, b" done");
-}
-
-fn tell_done_with(value: usize) {
-    tell_done();
-    tell_number(value);
+    say(b" done");
 }
 
 fn tell_refusal(x: Refusal) {
-    io::write_all(STDOUT, b" refused");
-    tell_number(wide(x.number));
-    tell_number(wide(x.buffer));
+    say(b" refused");
+    tell_number(usize::from(x.reason.number()));
+    tell_number(usize::from(x.buffer.number()));
     tell_number(x.place);
 }
 
-pub fn tell_checked(answer: Checked) {
-    match answer {
-        Checked::Fine => tell_done(),
-        Checked::Refused(x) => tell_refusal(x),
-    }
-}
-
-pub fn tell_read(answer: Read) {
-    match answer {
-        Read::Frame(first, second, start) => {
+// `done` and what was answered, or the refusal.
+pub fn tell(told: Result<impl Answer, Refusal>) {
+    match told {
+        Ok(answer) => {
             tell_done();
-            tell_number(first);
-            tell_number(second);
-            tell_number(start);
+            answer.tell();
         }
-        Read::Refused(x) => tell_refusal(x),
-    }
-}
-
-pub fn tell_written(answer: Written) {
-    match answer {
-        Written::Wrote(count) => tell_done_with(count),
-        Written::Refused(x) => tell_refusal(x),
-    }
-}
-
-pub fn tell_taken(answer: Taken) {
-    match answer {
-        Taken::Bytes(used) => tell_done_with(used),
-        Taken::Refused(x) => tell_refusal(x),
-    }
-}
-
-pub fn tell_verdict(answer: Verdict) {
-    match answer {
-        Verdict::Accepted(rounds) => tell_done_with(rounds),
-        Verdict::Refused(x) => tell_refusal(x),
+        Err(x) => tell_refusal(x),
     }
 }
 
 fn tell_hex(bytes: &[u8]) {
-    io::write_all(STDOUT, b" =");
-    let mut i: usize = 0;
-    while i < bytes.len() {
-        io::print_hex(STDOUT, wide(bytes[i]) as u64, 2);
-        i += 1;
+    say(b" =");
+    for x in bytes {
+        say_hex(*x);
     }
 }
 
 // RFC 1950's checksum.
-fn adler_32(bytes: &[u8]) -> u64 {
-    let mut sum: usize = 1;
-    let mut sums: usize = 0;
-    let mut i: usize = 0;
-    while i < bytes.len() {
-        sum = (sum + wide(bytes[i])) % 65521;
-        sums = (sums + sum) % 65521;
-        i += 1;
+fn adler_32(bytes: &[u8]) -> u32 {
+    let mut sum: u32 = 1;
+    let mut sums: u32 = 0;
+    for x in bytes {
+        sum = (sum + u32::from(*x)) % ADLER_MODULUS;
+        sums = (sums + sum) % ADLER_MODULUS;
     }
-    (sums * 65536 + sum) as u64
+    (sums << 16) | sum
 }
 
 // A buffer as it is after the call.
@@ -99,6 +82,6 @@ pub fn tell_bytes(bytes: &[u8]) {
         tell_hex(bytes);
         return;
     }
-    io::write_all(STDOUT, b" ~");
-    io::print_hex(STDOUT, adler_32(bytes), 8);
+    say(b" ~");
+    io::print_hex(STDOUT, u64::from(adler_32(bytes)), 8);
 }

@@ -1,47 +1,52 @@
-// The calls of the card and of the register by their numbers in a case, each with its line.
+// The calls of the card and of the register, each with its line.
 #![tactic(auto)]
+
+ghost use Rattle.std.specs.Prelude.{◌<◌};
 
 use card::answer::answer_step;
 use card::begin::begin_step;
 use card::give_up::give_up_step;
 use card::open::open_step;
 use card_checks::key::check_key;
+use card_rules::keys::Keys;
 use card_rules::session::Session;
 use card_steps::Step;
 use hosting::bytes::lay;
-use record_bytes::{put_session, session_of};
+use record_bytes::{record_of, session_of};
 use register::decide::verdict;
-use replay_cases::case::{buffer_of, number_of};
-use replay_cases::line::{tell_bytes, tell_checked, tell_done, tell_verdict, tell_written};
+use register_rules::SignOn;
+use replay_cases::case::{SignOnCall, buffer_of, number_of};
+use replay_cases::line::{tell, tell_bytes, tell_done};
+
+// The three frames from buffer k of the case on.
+fn keys_in(case: &[u8], k: usize) -> Keys
+    requires { k < 2 }
+{
+    Keys {
+        system: buffer_of(case, k),
+        public: buffer_of(case, k + 1),
+        secret: buffer_of(case, k + 2),
+    }
+}
 
 fn replay_key_check(case: &[u8]) {
-    tell_checked(check_key(buffer_of(case, 0), buffer_of(case, 1), buffer_of(case, 2)));
+    tell(check_key(&keys_in(case, 0)));
 }
 
 fn session_in(case: &[u8]) -> Session {
     session_of(buffer_of(case, 0))
 }
 
-fn tell_session(session: Session) {
-    let mut record = [0u8; 68];
-    put_session(session, &mut record);
-    tell_bytes(&record);
-}
-
 fn tell_step(step: Step) {
-    let told = step.told;
-    let next = step.next;
-    tell_written(told);
-    tell_session(next);
+    tell(step.told);
+    tell_bytes(&record_of(step.next));
 }
 
 fn replay_begin(case: &[u8], out: &mut [u8]) {
     tell_step(begin_step(
         session_in(case),
         number_of(case, 0),
-        buffer_of(case, 1),
-        buffer_of(case, 2),
-        buffer_of(case, 3),
+        &keys_in(case, 1),
         buffer_of(case, 4),
         out,
     ));
@@ -51,9 +56,7 @@ fn replay_begin(case: &[u8], out: &mut [u8]) {
 fn replay_answer(case: &[u8], out: &mut [u8]) {
     tell_step(answer_step(
         session_in(case),
-        buffer_of(case, 1),
-        buffer_of(case, 2),
-        buffer_of(case, 3),
+        &keys_in(case, 1),
         buffer_of(case, 4),
         buffer_of(case, 5),
         out,
@@ -64,9 +67,7 @@ fn replay_answer(case: &[u8], out: &mut [u8]) {
 fn replay_open(case: &[u8], choices: &mut [u8], out: &mut [u8]) {
     tell_step(open_step(
         session_in(case),
-        buffer_of(case, 1),
-        buffer_of(case, 2),
-        buffer_of(case, 3),
+        &keys_in(case, 1),
         buffer_of(case, 4),
         choices,
         out,
@@ -77,40 +78,38 @@ fn replay_open(case: &[u8], choices: &mut [u8], out: &mut [u8]) {
 
 // Open alone is lent two buffers for writing: the choices are laid here.
 fn replay_open_in(case: &[u8], room: &mut [u8], out: &mut [u8]) {
-    let lent = lay(buffer_of(case, 5), room);
-    replay_open(case, &mut room[..lent], out);
+    replay_open(case, lay(buffer_of(case, 5), room), out);
 }
 
 fn replay_give_up(case: &[u8], choices: &mut [u8]) {
     let next = give_up_step(session_in(case), choices);
     tell_done();
-    tell_session(next);
+    tell_bytes(&record_of(next));
     tell_bytes(choices);
 }
 
 fn replay_verdict(case: &[u8]) {
-    tell_verdict(verdict(
+    tell(verdict(
         number_of(case, 0),
-        buffer_of(case, 0),
-        buffer_of(case, 1),
-        buffer_of(case, 2),
-        buffer_of(case, 3),
-        buffer_of(case, 4),
-        buffer_of(case, 5),
-        buffer_of(case, 6),
+        &SignOn {
+            system: buffer_of(case, 0),
+            key: buffer_of(case, 1),
+            commitments: buffer_of(case, 2),
+            challenges: buffer_of(case, 3),
+            answers: buffer_of(case, 4),
+            bits: buffer_of(case, 5),
+            openings: buffer_of(case, 6),
+        },
     ));
 }
 
-pub fn replay_sign_on(call: u8, case: &[u8], out: &mut [u8]) {
+pub fn replay_sign_on(call: SignOnCall, case: &[u8], out: &mut [u8]) {
     match call {
-        25 => replay_key_check(case),
-        26 => replay_begin(case, out),
-        27 => replay_answer(case, out),
-        28 => {
-            let mut room = [0u8; 16384];
-            replay_open_in(case, &mut room, out);
-        }
-        29 => replay_give_up(case, out),
-        _ => replay_verdict(case),
+        SignOnCall::CheckKey => replay_key_check(case),
+        SignOnCall::Begin => replay_begin(case, out),
+        SignOnCall::Answer => replay_answer(case, out),
+        SignOnCall::Open => replay_open_in(case, &mut [0; 16384], out),
+        SignOnCall::GiveUp => replay_give_up(case, out),
+        SignOnCall::Verdict => replay_verdict(case),
     }
 }

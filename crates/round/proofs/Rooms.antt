@@ -1,13 +1,15 @@
 -- Laws for rooms whose first bytes are lent on, and for the comparison of bytes.
-use mathlib.Core.Path.{◌≡◌, sym, ◌∙◌, subst}
-use mathlib.Core.Bool.{true, false}
-use mathlib.Core.List.{List}
+use mathlib.Core.Path.{◌≡◌, refl, sym, ap, ◌∙◌, subst}
+use mathlib.Core.Bool.{Bool, true, false, ◌&&◌}
+use mathlib.Core.List.{List, [], ◌∷◌}
 use Prim.Native.Nat.{ℕ, ◌+◌, ◌≤◌, ◌<◌}
 use native.Mathlib.Numerals.{add-one}
 use native.Mathlib.Omega.{arith}
 use borrow.Author.Tests.{eq-eqb, ne_eqb}
+use lib.Dec.{eqb}
 use lib.ListN.{length, get_or, take, drop, length-take, drop_of_length-le}
-use lib.Seq.{drop-cons, length-take-le}
+use lib.Seq.{drop-cons}
+use Rattle.std.specs.Cmp.Lexicographic.{pointwise}
 use Rattle.algebra.specs.Lists.{over, same_bytes}
 use Rattle.algebra.specs.Permutations.{IsPerm, permute, compose}
 use Rattle.algebra.proofs.Lists.{front}
@@ -15,10 +17,6 @@ use Rattle.algebra.proofs.Permutations.{length-permute, compose-perm}
 
 pub take_within : (n k : ℕ) (l : List ℕ) → n < k → length (take n l) < k
 take_within n k l h = simp length-take (omega arith)
-
--- two prefixes of n
-pub take-alike : (n : ℕ) (x y : List ℕ) → n ≤ length x → n ≤ length y → length (take n x) ≡ length (take n y)
-take-alike n x y h k = length-take-le n x h ∙ sym (length-take-le n y k)
 
 -- what was written as V_θ, lent on
 pub front-permute : (v θ d y : List ℕ) (n : ℕ) → length θ ≡ n → y ≡ over (permute v θ) d → take n y ≡ permute v θ
@@ -28,6 +26,15 @@ front-permute v θ d y n e q = front (permute v θ) d y n (length-permute v θ �
 pub compose-own : (π σ : List ℕ) → IsPerm (length π) π → IsPerm (length σ) σ → length π ≡ length σ → IsPerm (length (compose π σ)) (compose π σ)
 compose-own π σ h g e =
     subst (λ (n : ℕ). IsPerm n (compose π σ)) (sym (length-permute π σ)) (compose-perm (length σ) π σ (subst (λ (n : ℕ). IsPerm n π) e h) g)
+
+-- ---- the comparison
+
+pub same_pointwise : (x y : List ℕ) → pointwise eqb x y ≡ same_bytes x y
+unfolding same_bytes
+same_pointwise [] [] = refl
+same_pointwise [] (y ∷ ys) = refl
+same_pointwise (x ∷ xs) [] = refl
+same_pointwise (x ∷ xs) (y ∷ ys) = ap (λ (b : Bool). eqb x y && b) (same_pointwise xs ys)
 
 -- ---- the comparison, from the place i on
 

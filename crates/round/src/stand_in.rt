@@ -1,59 +1,45 @@
 // The stand-in's part of a round: a lent vector U and a lent permutation theta, and no key.
-ghost use Rattle.std.specs.Prelude.{◌≡◌, true, ◌≤◌, ◌<◌, length};
+ghost use Rattle.std.specs.Prelude.{◌≡◌, ◌≤◌, ◌<◌, length};
 ghost use Rattle.algebra.specs.Lists.{over};
 ghost use Rattle.algebra.specs.Residues.{modulus};
 ghost use Rattle.algebra.specs.Permutations.{longest, IsPerm};
-ghost use Rattle.matrices.specs.Matrices.{SystemFits};
 ghost use Rattle.sha256.specs.Standard.{digest_of};
-ghost use Rattle.scheme.specs.Round.{system_of, pair, stand_in_committed, stand_in_answer};
+ghost use Rattle.scheme.specs.Round.{as_system, stand_in_committed, stand_in_answer};
+ghost use Rattle.round.specs.Parts.{as_pair};
 
+use crate::Pair;
 use crate::hashing::hash_two;
 use crate::register::called_for;
 use algebra::LONGEST;
 use algebra::output::copy_into;
 use algebra::permutation::permute_into;
 use algebra::residue::add_scaled_into;
+use matrices::Matrix;
 use sha256::DIGEST;
 
 // The commitment that passes for bit 0, the hash of theta and U for bit 1.
-pub fn stand_in_commitment(
-    a: &[u8],
-    n: usize,
-    m: usize,
-    v: &[u8],
-    c: u8,
-    bit: bool,
-    u: &[u8],
-    theta: &[u8],
-) -> [u8; DIGEST]
-    requires { SystemFits a.now n m × (length v.now ≡ n) × (c < modulus) × (length u.now ≡ n) × IsPerm (length theta.now) theta.now × (length theta.now ≡ n) }
-    ensures { result ≡ digest_of (stand_in_committed (system_of a.now n m) v.now c bit (pair u.now theta.now)) }
+#[tactic(auto, unfolding(scheme::specs::Round::stand_in_committed))]
+pub fn stand_in_commitment(a: &Matrix, v: &[u8], c: u8, bit: bool, x: Pair) -> [u8; DIGEST]
+    requires { (length v.now ≡ a.now.n) × (c < modulus) × IsPerm (length x.permutation.now) x.permutation.now × (length x.permutation.now ≡ a.now.n) }
+    ensures { result ≡ digest_of (stand_in_committed (as_system a.now) v.now c bit (as_pair x.entry)) }
 {
     if bit {
-        return hash_two(theta, u);
+        return hash_two(x.permutation, x.vector);
     }
-    called_for(a, n, m, v, c, false, theta, u)
-}
-
-// Writes U + c·V_theta; room for V_theta.
-fn added_with(v: &[u8], c: u8, u: &[u8], theta: &[u8], room: &mut [u8], out: &mut [u8])
-    requires { IsPerm (length theta.now) theta.now × (length v.now ≡ length theta.now) × (length u.now ≡ length theta.now) × (length theta.now ≤ length room.old) × (length theta.now ≤ length out.old) }
-    ensures { out.new ≡ over (stand_in_answer modulus v.now c true (pair u.now theta.now)) out.old }
-{
-    let n = theta.len();
-    permute_into(v, theta, room);
-    add_scaled_into(u, c, &room[..n], out);
+    called_for(a, v, c, false, x.permutation, x.vector)
 }
 
 // Writes the first answer: U for bit 0, U + c·V_theta for bit 1.
-pub fn stand_in_answer_into(v: &[u8], c: u8, bit: bool, u: &[u8], theta: &[u8], out: &mut [u8])
-    requires { IsPerm (length theta.now) theta.now × (length v.now ≡ length theta.now) × (length u.now ≡ length theta.now) × (length theta.now ≤ longest) × (length theta.now ≤ length out.old) }
-    ensures { out.new ≡ over (stand_in_answer modulus v.now c bit (pair u.now theta.now)) out.old }
+#[tactic(auto, unfolding(scheme::specs::Round::stand_in_answer))]
+pub fn stand_in_answer_into(v: &[u8], c: u8, bit: bool, x: Pair, out: &mut [u8])
+    requires { IsPerm (length x.permutation.now) x.permutation.now × (length v.now ≡ length x.permutation.now) × (length x.permutation.now ≤ longest) × (length x.permutation.now ≤ length out.old) }
+    ensures { out.new ≡ over (stand_in_answer modulus v.now c bit (as_pair x.entry)) out.old }
 {
     if bit {
         let mut room = [0u8; LONGEST];
-        added_with(v, c, u, theta, &mut room, out);
+        permute_into(v, x.permutation, &mut room);
+        add_scaled_into(x.vector, c, &room[..x.permutation.len()], out);
     } else {
-        copy_into(u, out);
+        copy_into(x.vector, out);
     }
 }

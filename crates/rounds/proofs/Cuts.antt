@@ -70,6 +70,10 @@ pub vector-length : (n : ℕ) (x : List ℕ) (k : ℕ) → k * (n + n) + (n + n)
 unfolding vector_of stretch
 vector-length n x k h = simp (length-take, length-drop) (omega arith)
 
+pub permutation-length : (n : ℕ) (x : List ℕ) (k : ℕ) → k * (n + n) + (n + n) ≤ length x → length (permutation_of n (choice_of x n k)) ≡ n
+unfolding permutation_of stretch
+permutation-length n x k h = simp (length-take, length-drop) (omega arith)
+
 pub part_length : (from size : ℕ) (s : List ℕ) → from + size ≤ length s → length (take (from + size - from) (drop from s)) ≡ size
 part_length from size s h = simp (length-take, length-drop) (omega arith)
 

@@ -1,3 +1,4 @@
 -- N rounds side by side.
 pub mod Layout
 pub mod Rounds
+pub mod Parts

@@ -2,9 +2,11 @@
 ghost use Rattle.std.specs.Prelude.{◌≡◌, ◌+◌, ◌*◌, ◌≤◌, ◌<◌, length};
 ghost use Rattle.kinds.specs.Kinds.{pair_size};
 ghost use Rattle.readers.specs.Choosing.{choice_size};
+ghost use Rattle.round.specs.Parts.{as_pair};
 ghost use Rattle.rounds.specs.Layout.{pair_at, half_start};
 
 use kinds::PAIR;
+use round::Pair;
 use sha256::DIGEST;
 
 // R of round k.
@@ -25,6 +27,17 @@ pub fn permutation_of(choices: &[u8], n: usize, k: usize) -> &[u8]
     let at = k * (n + n) + n;
     let end = at + n;
     &choices[at..end]
+}
+
+// Both.
+pub fn pair_at(choices: &[u8], n: usize, k: usize) -> Pair
+    requires { k * choice_size n + choice_size n ≤ length choices.now }
+    ensures { as_pair result ≡ pair_at n choices.now k }
+{
+    Pair {
+        vector: vector_of(choices, n, k),
+        permutation: permutation_of(choices, n, k),
+    }
 }
 
 // Where the commitment of a bit starts.

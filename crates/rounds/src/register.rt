@@ -1,84 +1,41 @@
 // The register's loop: the first round that does not pass.
-ghost use Rattle.std.specs.Prelude.{◌≡◌, ◌<◌, length};
-ghost use Rattle.matrices.specs.Matrices.{SystemFits};
-ghost use Rattle.scheme.specs.Round.{system_of};
-ghost use Rattle.rounds.specs.Layout.{messages, MessagesFit};
+ghost use Rattle.std.specs.Prelude.{◌≡◌, ◌<◌, length, unwrap_or, IfSome};
+ghost use Rattle.scheme.specs.Round.{as_system};
+ghost use Rattle.rounds.specs.Layout.{MessagesFit};
 ghost use Rattle.rounds.specs.Rounds.{passes_at, first_failing};
+ghost use Rattle.rounds.specs.Parts.{as_messages};
 
+use crate::Messages;
 use crate::layout::half_start;
+use matrices::Matrix;
 use packed_bits::bit_at;
+use round::Opened;
 use round::register::passes;
 use sha256::DIGEST;
 
 // Whether round k passes.
-fn passes_at(
-    a: &[u8],
-    n: usize,
-    m: usize,
-    v: &[u8],
-    commitments: &[u8],
-    challenges: &[u8],
-    answers: &[u8],
-    bits: &[u8],
-    openings: &[u8],
-    rounds: usize,
-    k: usize,
-) -> bool
-    requires { SystemFits a.now n m × (length v.now ≡ n) × MessagesFit n rounds (messages commitments.now challenges.now answers.now bits.now openings.now) × (k < rounds) }
-    ensures { result ≡ passes_at (system_of a.now n m) v.now (messages commitments.now challenges.now answers.now bits.now openings.now) k }
+fn passes_at(a: &Matrix, v: &[u8], x: &Messages, rounds: usize, k: usize) -> bool
+    requires { (length v.now ≡ a.now.n) × MessagesFit a.now.n rounds (as_messages x.now) × (k < rounds) }
+    ensures { result ≡ passes_at (as_system a.now) v.now (as_messages x.now) k }
 {
-    let bit = bit_at(bits, k);
+    let bit = bit_at(x.bits, k);
     let start = half_start(bit, k);
     let end = start + DIGEST;
-    let from = k * n;
-    let to = from + n;
-    passes(
-        a,
-        n,
-        m,
-        v,
-        challenges[k],
-        bit,
-        &commitments[start..end],
-        &answers[from..to],
-        &openings[from..to],
-    )
+    let from = k * a.n;
+    let to = from + a.n;
+    let opened = Opened {
+        commitment: &x.commitments[start..end],
+        answer: &x.answers[from..to],
+        permutation: &x.openings[from..to],
+    };
+    passes(a, v, x.challenges[k], bit, opened)
 }
 
-// The first of the rounds that does not pass; their count where all do.
-pub fn first_failing(
-    a: &[u8],
-    n: usize,
-    m: usize,
-    v: &[u8],
-    commitments: &[u8],
-    challenges: &[u8],
-    answers: &[u8],
-    bits: &[u8],
-    openings: &[u8],
-    rounds: usize,
-) -> usize
-    requires { SystemFits a.now n m × (length v.now ≡ n) × MessagesFit n rounds (messages commitments.now challenges.now answers.now bits.now openings.now) }
-    ensures { result ≡ first_failing (system_of a.now n m) v.now (messages commitments.now challenges.now answers.now bits.now openings.now) rounds }
+// The first of the rounds that does not pass.
+pub fn first_failing(a: &Matrix, v: &[u8], x: &Messages, rounds: usize) -> Option<usize>
+    requires { (length v.now ≡ a.now.n) × MessagesFit a.now.n rounds (as_messages x.now) }
+    ensures first { unwrap_or result rounds ≡ first_failing (as_system a.now) v.now (as_messages x.now) rounds }
+    ensures below { IfSome result (λ k. k < rounds) }
 {
-    let mut k: usize = 0;
-    while k < rounds {
-        if !passes_at(
-            a,
-            n,
-            m,
-            v,
-            commitments,
-            challenges,
-            answers,
-            bits,
-            openings,
-            rounds,
-            k,
-        ) {
-            return k;
-        }
-        k += 1;
-    }
-    k
+    (0..rounds).find(|k| !passes_at(a, v, x, rounds, *k))
 }

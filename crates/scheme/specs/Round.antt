@@ -4,6 +4,7 @@ use Rattle.algebra.specs.Lists.{same_bytes}
 use Rattle.algebra.specs.Residues.{modulus, Residues, add_scaled, sub_scaled}
 use Rattle.algebra.specs.Permutations.{IsPerm, permute, compose}
 use Rattle.matrices.specs.Matrices.{product, product_at, SystemFits}
+use Rattle.matrices.specs.declared.Matrix.{Matrix}
 use Rattle.sha256.specs.Standard.{digest_of}
 
 -- the system that all share: the modulus, the entries of A' by rows, n and m
@@ -16,6 +17,9 @@ pub record System : Type 0 where
 -- the system of the code
 abbrev pub system_of : List ℕ → ℕ → ℕ → System
 system_of a n m = record { p = modulus; entries = a; n = n; m = m }
+
+abbrev pub as_system : Matrix → System
+as_system a = system_of a.entries.now a.n a.m
 
 pub record Sound (s : System) : Type 0 where
   pub some : 0 < s.p

@@ -1,11 +1,11 @@
 -- Laws of a stream: what each step makes of the message that was absorbed, as the functions of `src/stream.rt` go.
 use mathlib.Core.List.{List, ◌++◌, append_assoc}
 use mathlib.Core.Path.{◌≡◌, refl, sym, ap, ◌∙◌}
-use Prim.Native.Nat.{ℕ, zero, suc, ◌+◌, ◌-◌, ◌*◌, ◌/◌, ◌%◌, ◌≤◌, ◌<◌}
+use Prim.Native.Nat.{ℕ, zero, suc, ◌+◌, ◌*◌, ◌/◌, ◌%◌, ◌≤◌, ◌<◌, ◌-◌}
 use native.Mathlib.Omega.{arith}
 use lib.ListN.{length, take, drop, length-append, length-drop, drop_of_length-le, take-append-drop}
 use lib.Seq.{drop-append-le, drop_at, length-take-le, take_all, take-append-le}
-use Rattle.sha256.specs.Absorbed.{Absorbed, Chained}
+use Rattle.sha256.specs.Absorbed.{Absorbed, Absorbs, Chained}
 use Rattle.sha256.specs.Standard.{block_at, block_count, bytes_of, digest_of, hash_value, pad, padding}
 use Rattle.compression.specs.Block.{compress_of}
 use Rattle.compression.specs.declared.Words.{Words}
@@ -96,7 +96,16 @@ filled s m y b k front full size =
     let j : whole_of m ++ b ≡ m ++ y = ap (λ (l : List ℕ). whole_of m ++ l) f ∙ rejoined s m y k in
     absorbed _ (m ++ y) (omega arith) (rw j at (chained_more s.words (whole_of m) b (chained s m k) size))
 
--- what `&p[i..]` lends
+-- ---- a part p that is absorbed in two pieces, a and b
+
+pub both : (s r t : Stream) (p a b : List ℕ) → p ≡ a ++ b → Absorbs s a r → Absorbs r b t → Absorbs s p t
+both s r t p a b e h k =
+    let size : length p ≡ length a + length b = ap length e ∙ length-append a b in
+    record {
+      count = omega (arith, h.count, k.count);
+      message = λ m q. rw (e, ← append_assoc m a b) (k.message (m ++ a) (h.message m q));
+    }
+
 pub rest_of : (p : List ℕ) (i : ℕ) → take (length p - i) (drop i p) ≡ drop i p
 rest_of p i = take_all (length p - i) (drop i p) (rw length-drop (omega arith))
 

@@ -1,19 +1,19 @@
 -- What the contract of the hash call promises: when it is refused and when not, that it fixes the whole outcome, and what a refused call answers.
+use Rattle.refusals.specs.declared.Refusal.{Refusal}
+use Rattle.std.specs.Prelude.{Result, Ok, Err}
 use mathlib.Core.List.{List}
-use mathlib.Core.Path.{◌≡◌, sym, ap, ap₂, ◌∙◌}
+use mathlib.Core.Path.{◌≡◌, refl, sym, ap, ap₂, ◌∙◌}
 use Prim.Native.Nat.{ℕ, ◌≤◌, ◌<◌}
 use borrow.Author.Tests.{le-leb, lt-leb}
 use native.Mathlib.Omega.{arith}
 use lib.Dec.{leb}
 use lib.ListN.{length, replicate}
-use Rattle.refusals.proofs.Chain.{means_fixes, UpTo, demand-most}
+use Rattle.refusals.proofs.Chain.{outcome_fixes, UpTo, demand-most}
 use Rattle.refusals.specs.Buffer.{CHOICES}
 use Rattle.refusals.specs.Number.{SHAPE}
-use Rattle.refusals.specs.Told.{Told, refused, fine, means}
-use Rattle.refusals.specs.declared.Checked.{Checked}
-use Rattle.sha256.specs.Call.{LONGEST, Hashes, told_of, shown_of}
+use Rattle.refusals.specs.Told.{Told, done, refused, fine, outcome, first}
+use Rattle.sha256.specs.Call.{LONGEST, Hashes, means_digest, shown, told_of, shown_of}
 use Rattle.sha256.specs.Standard.{digest_of}
-use Rattle.sha256.specs.declared.Hashed.{Hashed}
 
 pub told-fine : (m : List ℕ) → length m ≤ LONGEST → fine ≡ told_of m
 unfolding told_of
@@ -24,23 +24,30 @@ unfolding told_of
 told_long m h = rw (lt-leb (length m) LONGEST h)
 
 -- no second outcome fits the contract
-pub one_outcome : (m : List ℕ) (r q : Hashed) → Hashes m r → Hashes m q → r ≡ q
+pub one_outcome : (m : List ℕ) (r q : Result (List ℕ) Refusal) → Hashes m r → Hashes m q → r ≡ q
 one_outcome m r q h k =
-    let a : r.answer ≡ q.answer = means_fixes r.answer q.answer (h.says ∙ sym k.says) in
-    let d : r.digest ≡ q.digest = h.shows ∙ ap (λ (t : Told). shown_of t m) (ap means a) ∙ sym k.shows in
-    ap₂ (λ (x : Checked) (y : List ℕ). record { answer = x; digest = y }) a d
+    outcome_fixes (λ digest. digest) (λ values. values) (λ digest. refl) r q
+    (both r ∙ ap₂ (λ (t : Told) (d : List ℕ). first t (done d)) (h.says ∙ sym k.says) (h.shows ∙ sym k.shows) ∙ sym (both q))
+  where
+    both : (r : Result (List ℕ) Refusal) → outcome (λ digest. digest) r ≡ first (means_digest r) (done (shown r))
+    both (Ok digest) = refl
+    both (Err x) = refl
 
--- nothing is lent to the call for writing: all that a refused call leaves is its answer and 32 zeros, whatever the message
-pub refused_shows_nothing : (m : List ℕ) (r : Hashed) → Hashes m r → LONGEST < length m → (means r.answer ≡ refused SHAPE CHOICES 0) × (r.digest ≡ replicate 32 0)
+-- nothing is lent to the call for writing: all that a refused call leaves is its refusal, whatever the message
+pub refused_shows_nothing : (m : List ℕ) (r : Result (List ℕ) Refusal) → Hashes m r → LONGEST < length m → (means_digest r ≡ refused SHAPE CHOICES 0) × (shown r ≡ replicate 32 0)
 refused_shows_nothing m r h long =
-    let t : means r.answer ≡ refused SHAPE CHOICES 0 = h.says ∙ sym (told_long m long) in
-    (t, h.shows ∙ ap (λ (x : Told). shown_of x m) t)
+    let t = sym (told_long m long) in
+    (h.says ∙ t, h.shows ∙ ap (λ (x : Told). shown_of x m) t)
 
 -- any other call has the digest
-pub fine_shows_digest : (m : List ℕ) (r : Hashed) → Hashes m r → length m ≤ LONGEST → (means r.answer ≡ fine) × (r.digest ≡ digest_of m)
+pub fine_shows_digest : (m : List ℕ) (r : Result (List ℕ) Refusal) → Hashes m r → length m ≤ LONGEST → (means_digest r ≡ fine) × (shown r ≡ digest_of m)
 fine_shows_digest m r h fits =
-    let t : means r.answer ≡ fine = h.says ∙ sym (told-fine m fits) in
-    (t, h.shows ∙ ap (λ (x : Told). shown_of x m) t)
+    let t = sym (told-fine m fits) in
+    (h.says ∙ t, h.shows ∙ ap (λ (x : Told). shown_of x m) t)
+
+-- and hands it back
+pub hands_back : (m d : List ℕ) → Hashes m (Ok d) → d ≡ digest_of m
+hands_back m d h = h.shows ∙ ap (λ (x : Told). shown_of x m) (sym h.says)
 
 -- the call refuses by SHAPE alone
 pub told-most : (m : List ℕ) → UpTo SHAPE (told_of m)

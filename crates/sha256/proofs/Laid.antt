@@ -2,11 +2,12 @@
 use mathlib.Core.List.{List, [], ◌∷◌, ◌++◌, append_assoc, append-nil}
 use mathlib.Core.Path.{◌≡◌, refl, sym, ap, ◌∙◌}
 use Prim.Native.Nat.{ℕ, zero, suc, ◌+◌, ◌*◌, ◌≤◌, ◌<◌}
-use native.Mathlib.Nat.{le_refl, not-suc-le-zero}
+use native.Mathlib.Nat.{div-one, le_refl, not-suc-le-zero}
 use native.Mathlib.Numerals.{add-one}
 use native.Mathlib.Omega.{arith}
 use lib.ListN.{length, get_or, take, drop, set, replicate, length-append, length-replicate, replicate-append-replicate}
 use lib.Seq.{drop_at, paste, set_at, take-append-add, take-length, take-paste, take-suc}
+use Rattle.std.specs.Int.{w32, w64, to_be_bytes}
 use Rattle.sha256.proofs.Padding.{length-bytes}
 use Rattle.sha256.specs.Standard.{bytes, bytes_of_words}
 
@@ -15,6 +16,15 @@ pub laid : (b y : List ℕ) (at : ℕ) → at ≤ length b → take (at + length
 laid b y at h = take-paste b at y (length y) h (le_refl (length y)) ∙ ap (λ (l : List ℕ). take at b ++ l) (take-length y)
 
 -- ---- the words of a digest
+
+-- a word's bytes, and a count's, by std's name
+pub word_bytes : (x : ℕ) → to_be_bytes w32 x ≡ bytes 4 x
+unfolding bytes
+word_bytes x = simp div-one
+
+pub count_bytes : (x : ℕ) → to_be_bytes w64 x ≡ bytes 8 x
+unfolding bytes
+count_bytes x = simp div-one
 
 words_append : (a b : List ℕ) → bytes_of_words (a ++ b) ≡ bytes_of_words a ++ bytes_of_words b
 unfolding bytes_of_words

@@ -3,9 +3,8 @@
 
 ghost use Rattle.sha256.specs.Call.{Hashes};
 
-use refusals::Checked;
-use refusals::buffer::CHOICES;
-use refusals::number::SHAPE;
+use refusals::{Buffer, Reason, Refusal, refuse};
+use stream::{absorb, finish, start};
 
 mod bytes;
 pub mod stream;
@@ -16,26 +15,12 @@ pub const DIGEST: usize = 32;
 // The most bytes that the hash call takes.
 pub const LONGEST: usize = 65535;
 
-// What the hash call answers, and the digest beside it: 32 zeros where it is refused.
-#[derive(Clone, Copy)]
-pub struct Hashed {
-    pub answer: Checked,
-    pub digest: [u8; DIGEST],
-}
-
 // The hash call: the digest of a message of at most 65,535 bytes.
-pub fn hash(message: &[u8]) -> Hashed
+pub fn hash(message: &[u8]) -> Result<[u8; DIGEST], Refusal>
     ensures { Hashes message.now result }
 {
     if LONGEST < message.len() {
-        return Hashed {
-            answer: refusals::refuse(SHAPE, CHOICES, 0),
-            digest: [0u8; DIGEST],
-        };
+        return refuse(Reason::Shape, Buffer::Choices, 0);
     }
-    let s = stream::absorb(stream::start(), message);
-    Hashed {
-        answer: Checked::Fine,
-        digest: stream::finish(s),
-    }
+    Ok(finish(absorb(start(), message)))
 }

@@ -4,7 +4,7 @@ ghost use Rattle.sha256.specs.Standard.{zeros, padding, digest_of};
 ghost use Rattle.sha256.specs.Absorbed.{Absorbed, Absorbs, Chained};
 
 use crate::DIGEST;
-use crate::bytes::{bytes_of, bytes_of_count, lay};
+use crate::bytes::{bytes_of, lay};
 use compression::constants::initial;
 use compression::{Words, compress};
 
@@ -17,6 +17,7 @@ pub struct Stream {
 }
 
 // A stream that has absorbed nothing.
+#[tactic(auto, unfolding(crate::specs::Standard::hash_value))]
 pub fn start() -> Stream
     ensures { Absorbed result [] }
 {
@@ -28,35 +29,26 @@ pub fn start() -> Stream
 }
 
 // Absorbs a part that does not end the block: it waits in the buffer.
-fn wait(s: Stream, part: &[u8]) -> Stream
+fn wait(mut s: Stream, part: &[u8]) -> Stream
     requires { (s.count < 2 ^ 61) × (s.count % 64 + length part.now < 64) }
     ensures { Absorbs s part.now result }
 {
-    let n = s.count;
-    let words = s.words;
-    let mut buffer = s.buffer;
-    lay(&mut buffer, n % 64, part);
-    Stream {
-        words,
-        buffer,
-        count: n + part.len(),
-    }
+    let at = s.count % 64;
+    lay(&mut s.buffer, at, part);
+    s.count += part.len();
+    s
 }
 
 // Absorbs a part that ends the block.
-fn fill(s: Stream, part: &[u8]) -> Stream
+fn fill(mut s: Stream, part: &[u8]) -> Stream
     requires { (s.count < 2 ^ 61) × (s.count % 64 + length part.now ≡ 64) }
     ensures { Absorbs s part.now result }
 {
-    let n = s.count;
-    let words = s.words;
-    let mut buffer = s.buffer;
-    lay(&mut buffer, n % 64, part);
-    Stream {
-        words: compress(words, &buffer),
-        buffer,
-        count: n + part.len(),
-    }
+    let at = s.count % 64;
+    lay(&mut s.buffer, at, part);
+    s.words = compress(s.words, &s.buffer);
+    s.count += part.len();
+    s
 }
 
 // The hash value after the blocks of a part more, straight from the slice.
@@ -65,30 +57,21 @@ fn blocks(words: Words, part: &[u8]) -> Words
     ensures { (m : List ℕ) → Chained words m → Chained result (m ++ part.now) }
 {
     let mut v = words;
-    let mut i: usize = 0;
-    while i < part.len() {
-        let end = i + 64;
-        v = compress(v, &part[i..end]);
-        i = end;
+    for block in part.chunks_exact(64) {
+        v = compress(v, block);
     }
     v
 }
 
 // Absorbs a part, where no byte waits: its whole blocks, then the rest.
-fn whole(s: Stream, part: &[u8]) -> Stream
+fn whole(mut s: Stream, part: &[u8]) -> Stream
     requires { (s.count + length part.now < 2 ^ 61) × (s.count % 64 ≡ 0) }
     ensures { Absorbs s part.now result }
 {
-    let end = part.len() - part.len() % 64;
-    let n = s.count;
-    let words = s.words;
-    let buffer = s.buffer;
-    let r = Stream {
-        words: blocks(words, &part[..end]),
-        buffer,
-        count: n + end,
-    };
-    wait(r, &part[end..])
+    let (front, rest) = part.split_at(part.len() - part.len() % 64);
+    s.words = blocks(s.words, front);
+    s.count += front.len();
+    wait(s, rest)
 }
 
 // Absorbs a part.
@@ -96,20 +79,20 @@ pub fn absorb(s: Stream, part: &[u8]) -> Stream
     requires { s.count + length part.now < 2 ^ 61 }
     ensures { Absorbs s part.now result }
 {
-    let n = s.count;
-    let at = n % 64;
-    let room = 64 - at;
+    let room = 64 - s.count % 64;
     if part.len() < room {
         return wait(s, part);
     }
-    if at == 0 {
+    if room == 64 {
         return whole(s, part);
     }
-    let r = fill(s, &part[..room]);
-    whole(r, &part[room..])
+    let (front, rest) = part.split_at(room);
+    let r = fill(s, front);
+    whole(r, rest)
 }
 
 // The zeros of the padding of n bytes: with the mark and the count of bits they end the block that waits, or the next.
+#[tactic(auto, unfolding(crate::specs::Standard::zeros))]
 fn zeros_of(n: usize) -> usize
     ensures { (result ≡ zeros n) × (n % 64 + result ≤ 119) × ((n % 64 + result + 9) % 64 ≡ 0) }
 {
@@ -123,10 +106,10 @@ fn lay_end(tail: &mut [u8], buffer: &[u8], n: usize)
 {
     let at = n % 64;
     let bits_at = at + zeros_of(n) + 1;
-    let bits = bytes_of_count(8 * (n as u64));
+    let bits = 8 * (n as u64);
     lay(tail, 0, &buffer[..at]);
     tail[at] = 0x80;
-    lay(tail, bits_at, &bits);
+    lay(tail, bits_at, &bits.to_be_bytes());
 }
 
 // The digest of all that was absorbed.
@@ -136,8 +119,7 @@ pub fn finish(s: Stream) -> [u8; DIGEST]
 {
     let n = s.count;
     let end = n % 64 + zeros_of(n) + 9;
-    let words = s.words;
     let mut tail = [0u8; 128];
     lay_end(&mut tail, &s.buffer, n);
-    bytes_of(blocks(words, &tail[..end]))
+    bytes_of(blocks(s.words, &tail[..end]))
 }

@@ -5,9 +5,9 @@ ghost use Rattle.std.specs.Prelude.{◌≡◌, ◌<◌, ◌≤◌, length};
 ghost use Rattle.sha256.specs.Call.{LONGEST, Hashes, shown_of, told_of};
 ghost use Rattle.sha256.specs.Standard.{digest_of};
 
-use refusals::Checked;
+use refusals::Refusal;
 use sha256::stream::{absorb, finish, start};
-use sha256::{DIGEST, Hashed, LONGEST};
+use sha256::{DIGEST, LONGEST};
 
 // The digest of a message that is absorbed in pieces of `size` bytes, the last of them the rest.
 fn pieces(message: &[u8], size: usize) -> [u8; DIGEST]
@@ -15,29 +15,20 @@ fn pieces(message: &[u8], size: usize) -> [u8; DIGEST]
     ensures { result ≡ digest_of message.now }
 {
     let mut s = start();
-    let mut i: usize = 0;
-    while size < message.len() - i {
-        let end = i + size;
-        s = absorb(s, &message[i..end]);
-        i = end;
+    for piece in message.chunks(size) {
+        s = absorb(s, piece);
     }
-    finish(absorb(s, &message[i..]))
+    finish(s)
 }
 
 // The hash call in pieces of `size` bytes; in one where `size` is 0.
-pub fn in_pieces(message: &[u8], size: usize) -> Hashed
+pub fn in_pieces(message: &[u8], size: usize) -> Result<[u8; DIGEST], Refusal>
     ensures { Hashes message.now result }
 {
-    if size == 0 {
+    if size == 0 || LONGEST < message.len() {
         return sha256::hash(message);
     }
-    if LONGEST < message.len() {
-        return sha256::hash(message);
-    }
-    Hashed {
-        answer: Checked::Fine,
-        digest: pieces(message, size),
-    }
+    Ok(pieces(message, size))
 }
 
 // A digest as C takes it.
@@ -52,7 +43,7 @@ pub struct Digest {
 pub extern "C" fn sha256_in_pieces(message: &[u8], size: usize) -> Digest
     ensures { result.bytes ≡ shown_of (told_of message.now) message.now }
 {
-    let hashed = in_pieces(message, size);
-    let bytes = hashed.digest;
-    Digest { bytes }
+    Digest {
+        bytes: in_pieces(message, size).unwrap_or([0; DIGEST]),
+    }
 }

@@ -4,7 +4,7 @@
 
 ghost use Rattle.std.specs.Prelude.{◌≡◌, ◌≤◌, length};
 
-use refusals::Checked;
+use refusals::Refusal;
 use sha256::DIGEST;
 
 fn print(text: &[u8]) {
@@ -15,53 +15,46 @@ fn print_number(n: usize) {
     io::print_decimal(1, n as u64);
 }
 
-fn print_answer(answer: Checked) {
-    match answer {
-        Checked::Fine => print(b" fine "),
-        Checked::Refused(r) => {
-            print(b" refused ");
-            print_number(r.number as usize);
-            print(b" ");
-            print_number(r.buffer as usize);
-            print(b" ");
-            print_number(r.place);
-            print(b" ");
-        }
-    }
+fn print_refused(x: Refusal) {
+    print(b" refused ");
+    print_number(usize::from(x.reason.number()));
+    print(b" ");
+    print_number(usize::from(x.buffer.number()));
+    print(b" ");
+    print_number(x.place);
+    print(b" ");
 }
 
 fn print_digest(digest: [u8; DIGEST]) {
-    let mut j = 0;
-    while j < DIGEST {
-        io::print_hex(1, digest[j] as u64, 2);
-        j += 1;
+    for b in digest {
+        io::print_hex(1, u64::from(b), 2);
     }
+}
+
+// The digest of what the call answers, 32 zeros where it is refused.
+fn shown(hashed: Result<[u8; DIGEST], Refusal>) -> [u8; DIGEST] {
+    hashed.unwrap_or([0; DIGEST])
 }
 
 // Whether the message has that digest in two pieces, in three, and so on to `most`, or nearly so many.
 fn same_in_pieces(message: &[u8], digest: [u8; DIGEST], most: usize) -> bool
     requires { most ≤ 64 }
 {
-    let mut pieces = 2;
-    while pieces <= most {
-        let hashed = sha256_pieces::in_pieces(message, message.len() / pieces + 1);
-        let other = hashed.digest;
-        if !check::same(&digest, &other) {
-            return false;
-        }
-        pieces += 1;
-    }
-    true
+    (2..=most).all(|pieces| {
+        shown(sha256_pieces::in_pieces(message, message.len() / pieces + 1)) == digest
+    })
 }
 
 fn print_line(message: &[u8], most: usize)
     requires { most ≤ 64 }
 {
-    let hashed = sha256::hash(message);
-    let answer = hashed.answer;
-    let digest = hashed.digest;
     print_number(message.len());
-    print_answer(answer);
+    let hashed = sha256::hash(message);
+    match hashed {
+        Ok(_) => print(b" fine "),
+        Err(x) => print_refused(x),
+    }
+    let digest = shown(hashed);
     print_digest(digest);
     if same_in_pieces(message, digest, most) {
         print(b" same\n");
@@ -82,10 +75,8 @@ fn print_equal(byte: u8, n: usize)
 fn print_mixed(room: &mut [u8], n: usize, most: usize)
     requires { (n ≤ length room.old) × (length room.old ≡ 65536) × (most ≤ 64) }
 {
-    let mut i = 0;
-    while i < n {
-        room[i] = ((31 * i + n) % 251) as u8;
-        i += 1;
+    for (i, byte) in room[..n].iter_mut().enumerate() {
+        *byte = ((31 * i + n) % 251) as u8;
     }
     print_line(&room[..n], most);
 }
@@ -112,10 +103,8 @@ fn print_examples() {
 fn print_short(room: &mut [u8])
     requires { length room.old ≡ 65536 }
 {
-    let mut n = 0;
-    while n <= 300 {
+    for n in 0..=300 {
         print_mixed(room, n, 16);
-        n += 1;
     }
 }
 
@@ -123,12 +112,10 @@ fn print_short(room: &mut [u8])
 fn print_long(room: &mut [u8])
     requires { length room.old ≡ 65536 }
 {
-    let mut n = 320;
-    while n < 65536 {
+    for n in (320..65536).step_by(64) {
         print_mixed(room, n - 1, 4);
         print_mixed(room, n, 4);
         print_mixed(room, n + 1, 4);
-        n += 64;
     }
     print_mixed(room, 65535, 4);
     print_mixed(room, 65536, 4);

@@ -1,21 +1,18 @@
 -- What the calls that write promise, with their answers as C takes them.
+use Rattle.std.specs.Prelude.{Result, Ok, Err}
 use mathlib.Core.Path.{◌≡◌, sym, ◌∙◌}
 use mathlib.Core.List.{List, [], ◌∷◌}
 use Prim.Native.Nat.{ℕ}
 use lib.ListN.{length}
 use Rattle.refusals.specs.declared.Refusal.{Refusal}
 use Rattle.refusals.specs.Number.{DRAW}
-use Rattle.refusals.specs.Told.{Told, done, told}
+use Rattle.refusals.specs.Told.{Told, done, told, means_count}
 use Rattle.refusals.proofs.Chain.{UpTo}
 use Rattle.algebra.specs.Lists.{over}
 use Rattle.random.specs.Drawings.{Drawing, used_by, drawn_over}
 use Rattle.kinds.specs.declared.Kind.{Kind}
-use Rattle.writers.specs.declared.Written.{Written}
-use Rattle.writers.specs.declared.Written.TheVariants.{Wrote, Refused}
-use Rattle.writers.specs.Writing.{written_means, out_after, Writes}
-use Rattle.draw_rules.specs.declared.Taken.{Taken}
-use Rattle.draw_rules.specs.declared.Taken.TheVariants.{Bytes, Refused as NotTaken}
-use Rattle.draw_rules.specs.Telling.{taken_means, drawn_after, Draws}
+use Rattle.writers.specs.Writing.{out_after, Writes}
+use Rattle.draw_rules.specs.Telling.{drawn_after, Draws}
 use Rattle.stand_in.specs.Standing.{StandsIn}
 use Rattle.card_for_c.specs.declared.Answer.{Answer}
 use Rattle.card_for_c.specs.Answers.{answer_of, Held}
@@ -34,26 +31,26 @@ module _ (t : Told) (h : Held one t) (answer : Answer) (after filled out : List 
   refused_for_c r q e p = record { says = rw q e; writes = rw e (p ∙ refused_left one r (rw (← q) h) filled out) }
 
 module _ (t : Told) (h : Held one t) (answer : Answer) (after out : List ℕ) where
-  written-for-c : (w : Written) → answer ≡ answer_of (written_means w) → written_means w ≡ t → (l : List ℕ) → after ≡ out_after w l out
+  written-for-c : (w : Result ℕ Refusal) → answer ≡ answer_of (means_count w) → means_count w ≡ t → (l : List ℕ) → after ≡ out_after w l out
       → OutputForC t (over l out) out answer after
-  written-for-c (Wrote bytes) e q l p = done_for_c t h answer after (over l out) out (bytes ∷ []) (sym q) e p
-  written-for-c (Refused r) e q l p = refused_for_c t h answer after (over l out) out r (sym q) e p
+  written-for-c (Ok bytes) e q l p = done_for_c t h answer after (over l out) out (bytes ∷ []) (sym q) e p
+  written-for-c (Err r) e q l p = refused_for_c t h answer after (over l out) out r (sym q) e p
 
-  drawn-for-c : (w : Taken) → answer ≡ answer_of (taken_means w) → taken_means w ≡ t → (d : Drawing) → after ≡ drawn_after w d out
+  drawn-for-c : (w : Result ℕ Refusal) → answer ≡ answer_of (means_count w) → means_count w ≡ t → (d : Drawing) → after ≡ drawn_after w d out
       → OutputForC t (drawn_over d out) out answer after
-  drawn-for-c (Bytes used) e q d p = done_for_c t h answer after (drawn_over d out) out (used ∷ []) (sym q) e p
-  drawn-for-c (NotTaken r) e q d p = refused_for_c t h answer after (drawn_over d out) out r (sym q) e p
+  drawn-for-c (Ok used) e q d p = done_for_c t h answer after (drawn_over d out) out (used ∷ []) (sym q) e p
+  drawn-for-c (Err r) e q d p = refused_for_c t h answer after (drawn_over d out) out r (sym q) e p
 
-pub write_for_c : (k : Kind) (a b : ℕ) (plain out : List ℕ) (w : Written) (answer : Answer) (after : List ℕ)
-    → answer ≡ answer_of (written_means w) → Writes k a b plain out w after → WriteForC k a b plain out answer after
+pub write_for_c : (k : Kind) (a b : ℕ) (plain out : List ℕ) (w : Result ℕ Refusal) (answer : Answer) (after : List ℕ)
+    → answer ≡ answer_of (means_count w) → Writes k a b plain out w after → WriteForC k a b plain out answer after
 write_for_c k a b plain out w answer after e p = written-for-c _ (write_held k a b plain (length out)) answer after out w e p.says _ p.writes
 
-pub stand_in_for_c : (c bit : ℕ) (system key lent out : List ℕ) (w : Written) (answer : Answer) (after : List ℕ)
-    → answer ≡ answer_of (written_means w) → StandsIn c bit system key lent out w after → StandInForC c bit system key lent out answer after
+pub stand_in_for_c : (c bit : ℕ) (system key lent out : List ℕ) (w : Result ℕ Refusal) (answer : Answer) (after : List ℕ)
+    → answer ≡ answer_of (means_count w) → StandsIn c bit system key lent out w after → StandInForC c bit system key lent out answer after
 stand_in_for_c c bit system key lent out w answer after e p =
     written-for-c _ (stand_in_held c bit system key lent (length out)) answer after out w e p.says _ p.writes
 
-pub draw_for_c : (numbers : Told) (need : ℕ) (drawing : Drawing) (random out : List ℕ) (w : Taken) (answer : Answer) (after : List ℕ) → UpTo DRAW numbers
-    → answer ≡ answer_of (taken_means w) → Draws numbers need drawing random out w after → DrawForC numbers need drawing random out answer after
+pub draw_for_c : (numbers : Told) (need : ℕ) (drawing : Drawing) (random out : List ℕ) (w : Result ℕ Refusal) (answer : Answer) (after : List ℕ) → UpTo DRAW numbers
+    → answer ≡ answer_of (means_count w) → Draws numbers need drawing random out w after → DrawForC numbers need drawing random out answer after
 draw_for_c numbers need drawing random out w answer after h e p =
     drawn-for-c _ (draw_held numbers h need (length out) (used_by drawing) (length random)) answer after out w e p.says drawing p.writes

@@ -6,7 +6,7 @@ use native.Mathlib.Omega.{arith}
 use Rattle.refusals.specs.Number.{SHAPE, PERM, ROOM, DRAW, STAGE, SECOND}
 use Rattle.refusals.specs.Told.{Told, done, first}
 use Rattle.refusals.proofs.Chain.{UpTo, ends_done, done_most, first-most, most-more}
-use Rattle.random.specs.declared.draw.Used.{Used}
+use Rattle.std.specs.Prelude.{Option}
 use Rattle.sha256.specs.Call.{told_of}
 use Rattle.sha256.proofs.Call.{told-most}
 use Rattle.kinds.specs.declared.Kind.{Kind}
@@ -50,7 +50,7 @@ stand_in_held c bit system key lent room =
 
 -- ---- drawings, writers and the hash
 
-pub draw_held : (checked : Told) → UpTo DRAW checked → (need room : ℕ) (used : Used) (lent : ℕ) → Held one (telling checked need room used lent)
+pub draw_held : (checked : Told) → UpTo DRAW checked → (need room : ℕ) (used : Option ℕ) (lent : ℕ) → Held one (telling checked need room used lent)
 draw_held checked h need room used lent =
     held_one DRAW (telling checked need room used lent) (telling-most checked need room used lent h) (telling-one checked need room used lent)
 

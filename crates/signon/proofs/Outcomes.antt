@@ -75,4 +75,4 @@ pub opening-there : (s : List ℕ) (round : ℕ) → opening_check s round ≡ f
 opening-there s round q =
     let n = first_of s in
     let z : 6 + round * n + n - (6 + round * n) ≡ n = omega arith in
-    rw z at (opening-cut s round n refl q)
+    rw z at (opening-cut s round n 6 refl refl (sym q))

@@ -7,8 +7,8 @@ ghost use Rattle.draw_rules.specs.Making.{draw_challenges, draw_bits, draw_choic
 ghost use Rattle.draw_rules.specs.Telling.{bare, choices_fit};
 ghost use Rattle.signon.specs.Calls.{DrawForC};
 
-use crate::answers::of_drawing;
 use card_for_c::Answer;
+use card_for_c::answers::of_count;
 use draw::choices::draw_choices;
 use draw::messages::{draw_bits, draw_challenges};
 use draw::permutation::draw_permutation;
@@ -19,7 +19,7 @@ use kinds::Kind;
 pub extern "C" fn signon_draw_permutation(n: usize, random: &[u8], out: &mut [u8]) -> Answer
     ensures { DrawForC (bare (within alone.places n)) n (draw_permutation n random.now 0) random.now out.old result out.new }
 {
-    of_drawing(draw_permutation(n, random, out))
+    of_count(draw_permutation(n, random, out))
 }
 
 // N challenges, as their frame.
@@ -27,7 +27,7 @@ pub extern "C" fn signon_draw_permutation(n: usize, random: &[u8], out: &mut [u8
 pub extern "C" fn signon_draw_challenges(rounds: usize, random: &[u8], out: &mut [u8]) -> Answer
     ensures { DrawForC (bare (within alone.rounds rounds)) (frame_size Kind.Challenges rounds 0) (draw_challenges rounds random.now) random.now out.old result out.new }
 {
-    of_drawing(draw_challenges(rounds, random, out))
+    of_count(draw_challenges(rounds, random, out))
 }
 
 // N bits, as their frame.
@@ -35,7 +35,7 @@ pub extern "C" fn signon_draw_challenges(rounds: usize, random: &[u8], out: &mut
 pub extern "C" fn signon_draw_bits(rounds: usize, random: &[u8], out: &mut [u8]) -> Answer
     ensures { DrawForC (bare (within alone.rounds rounds)) (frame_size Kind.Bits rounds 0) (draw_bits rounds random.now) random.now out.old result out.new }
 {
-    of_drawing(draw_bits(rounds, random, out))
+    of_count(draw_bits(rounds, random, out))
 }
 
 // The choices of N rounds.
@@ -48,5 +48,5 @@ pub extern "C" fn signon_draw_choices(
 ) -> Answer
     ensures { DrawForC (bare (choices_fit most_rounds n rounds)) (rounds * choice_size n) (draw_choices n rounds random.now) random.now out.old result out.new }
 {
-    of_drawing(draw_choices(n, rounds, random, out))
+    of_count(draw_choices(n, rounds, random, out))
 }

@@ -3,10 +3,8 @@ ghost use Rattle.signon.specs.Calls.{HashForC};
 
 use algebra::output::copy_into;
 use card_for_c::Answer;
-use card_for_c::answers::{refusal, success};
-use refusals::buffer::OUTPUT;
-use refusals::number::ROOM;
-use refusals::{Checked, Refusal};
+use card_for_c::answers::{of_count, refusal, success};
+use refusals::{Buffer, Reason, refuse};
 use sha256::{DIGEST, hash};
 
 // The digest of a message of at most 65,535 bytes.
@@ -14,19 +12,13 @@ use sha256::{DIGEST, hash};
 pub extern "C" fn signon_hash(message: &[u8], out: &mut [u8]) -> Answer
     ensures { HashForC message.now out.old result out.new }
 {
-    let hashed = hash(message);
-    let answer = hashed.answer;
-    if let Checked::Refused(x) = answer {
-        return refusal(x);
-    }
+    let digest = match hash(message) {
+        Ok(digest) => digest,
+        Err(x) => return refusal(x),
+    };
     if out.len() < DIGEST {
-        return refusal(Refusal {
-            number: ROOM,
-            buffer: OUTPUT,
-            place: DIGEST,
-        });
+        return of_count(refuse(Reason::Room, Buffer::Output, DIGEST));
     }
-    let digest = hashed.digest;
     copy_into(&digest, out);
     success(DIGEST)
 }

@@ -1,7 +1,6 @@
 // The host's boundary: every call as a C function, over memory that the host lends.
 #![tactic(auto)]
 
-mod answers;
 pub mod drawing;
 pub mod hash;
 pub mod keys;

@@ -3,13 +3,11 @@ ghost use Rattle.std.specs.Prelude.{◌≡◌};
 ghost use Rattle.card_for_c.specs.Answers.{answer_of};
 ghost use Rattle.signon.specs.Calls.{ReadForC, opening_told};
 
-use algebra::wide;
 use card_for_c::Answer;
 use card_for_c::answers::{refusal, success};
-use frames::read::{Read, read_frame};
-use kinds::{FIRST_NUMBER, Kind, alone, start_of};
+use kinds::{FIRST_NUMBER, Kind};
 use readers::opening::check_opening;
-use refusals::Checked;
+use readers::read;
 
 // What the second number counts in an answer: the first is a byte.
 const BYTE: usize = 256;
@@ -18,9 +16,9 @@ const BYTE: usize = 256;
 fn read_for_c(kind: Kind, frame: &[u8]) -> Answer
     ensures { ReadForC kind frame.now result }
 {
-    match read_frame(kind, alone(), frame) {
-        Read::Frame(first, second, _) => success(first + BYTE * second),
-        Read::Refused(x) => refusal(x),
+    match read(kind, frame) {
+        Ok(frame) => success(frame.first + BYTE * frame.second),
+        Err(x) => refusal(x),
     }
 }
 
@@ -86,7 +84,7 @@ pub extern "C" fn signon_check_opening(openings: &[u8], round: usize) -> Answer
     ensures { result ≡ answer_of (opening_told openings.now round) }
 {
     match check_opening(openings, round) {
-        Checked::Fine => success(start_of(Kind::Openings) + round * wide(openings[FIRST_NUMBER])),
-        Checked::Refused(x) => refusal(x),
+        Ok(()) => success(Kind::Openings.start() + round * usize::from(openings[FIRST_NUMBER])),
+        Err(x) => refusal(x),
     }
 }

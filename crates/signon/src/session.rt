@@ -5,6 +5,7 @@ ghost use Rattle.card_for_c.specs.Card.{BeginForC, AnswerForC, OpenForC, GiveUpF
 
 use card_for_c::Answer;
 use card_for_c::steps::{answer_for_c, begin_for_c, give_up_for_c, open_for_c};
+use card_rules::keys::Keys;
 use card_rules::session::Session;
 
 // From idle or closed to committed: all commitments are written.
@@ -20,8 +21,13 @@ pub extern "C" fn signon_begin(
 ) -> Answer
     ensures { BeginForC session.old rounds (keys system.now public.now secret.now) choices.now out.old result session.new out.new }
 {
+    let keys = Keys {
+        system,
+        public,
+        secret,
+    };
     let old = *session;
-    let step = begin_for_c(old, rounds, system, public, secret, choices, out);
+    let step = begin_for_c(old, rounds, &keys, choices, out);
     *session = step.next;
     step.told
 }
@@ -39,8 +45,13 @@ pub extern "C" fn signon_answer_challenges(
 ) -> Answer
     ensures { AnswerForC session.old (keys system.now public.now secret.now) challenges.now choices.now out.old result session.new out.new }
 {
+    let keys = Keys {
+        system,
+        public,
+        secret,
+    };
     let old = *session;
-    let step = answer_for_c(old, system, public, secret, challenges, choices, out);
+    let step = answer_for_c(old, &keys, challenges, choices, out);
     *session = step.next;
     step.told
 }
@@ -58,8 +69,13 @@ pub extern "C" fn signon_open(
 ) -> Answer
     ensures { OpenForC session.old (keys system.now public.now secret.now) bits.now choices.old out.old result session.new choices.new out.new }
 {
+    let keys = Keys {
+        system,
+        public,
+        secret,
+    };
     let old = *session;
-    let step = open_for_c(old, system, public, secret, bits, choices, out);
+    let step = open_for_c(old, &keys, bits, choices, out);
     *session = step.next;
     step.told
 }

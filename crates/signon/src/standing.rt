@@ -2,7 +2,7 @@
 ghost use Rattle.signon.specs.Calls.{StandInForC};
 
 use card_for_c::Answer;
-use card_for_c::answers::of_writing;
+use card_for_c::answers::of_count;
 use stand_in::stand_in;
 
 // Writes the round that a challenge and a bit call for, of the lent vector and permutation: commitment, W and permutation.
@@ -17,5 +17,5 @@ pub extern "C" fn signon_stand_in(
 ) -> Answer
     ensures { StandInForC challenge bit system.now public.now lent.now out.old result out.new }
 {
-    of_writing(stand_in(challenge, bit, system, public, lent, out))
+    of_count(stand_in(challenge, bit, system, public, lent, out))
 }

@@ -3,9 +3,10 @@ ghost use Rattle.std.specs.Prelude.{◌≡◌};
 ghost use Rattle.register_rules.specs.Verdict.{sign_on, judging};
 ghost use Rattle.card_for_c.specs.Answers.{answer_of};
 
-use crate::answers::of_verdict;
 use card_for_c::Answer;
+use card_for_c::answers::of_count;
 use register::decide::verdict;
+use register_rules::SignOn;
 
 // A success answers N.
 #[unsafe(no_mangle)]
@@ -21,14 +22,14 @@ pub extern "C" fn signon_verdict(
 ) -> Answer
     ensures { result ≡ answer_of (judging grade (sign_on system.now public.now commitments.now challenges.now answers.now bits.now openings.now)) }
 {
-    of_verdict(verdict(
-        grade,
+    let x = SignOn {
         system,
-        public,
+        key: public,
         commitments,
         challenges,
         answers,
         bits,
         openings,
-    ))
+    };
+    of_count(verdict(grade, &x))
 }

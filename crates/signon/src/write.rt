@@ -2,7 +2,7 @@
 ghost use Rattle.signon.specs.Calls.{WriteForC};
 
 use card_for_c::Answer;
-use card_for_c::answers::of_writing;
+use card_for_c::answers::of_count;
 use kinds::Kind;
 use writers::write_frame;
 
@@ -10,7 +10,7 @@ use writers::write_frame;
 fn write_for_c(kind: Kind, a: usize, b: usize, plain: &[u8], out: &mut [u8]) -> Answer
     ensures { WriteForC kind a b plain.now out.old result out.new }
 {
-    of_writing(write_frame(kind, a, b, plain, out))
+    of_count(write_frame(kind, a, b, plain, out))
 }
 
 #[unsafe(no_mangle)]

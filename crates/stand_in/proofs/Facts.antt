@@ -73,12 +73,12 @@ lent-told c bit system key lent v e =
 
 -- ---- the values lent, as the code cuts them
 
-module _ (c bit : ℕ) (system key lent : List ℕ) (h : StandInFits c bit system key lent) (n m : ℕ) (p : n ≡ first_of system) (q : m ≡ second_of System system) where
+module _ (c bit : ℕ) (system key lent : List ℕ) (h : StandInFits c bit system key lent) (a : List ℕ) (n m : ℕ) (o : a ≡ rest_of System system) (p : n ≡ first_of system) (q : m ≡ second_of System system) where
   tail : from n lent ≡ permutation_of n lent
   unfolding permutation_of
   tail = let z = h.size in let e : length lent - n ≡ n = omega arith in ap (λ (k : ℕ). take k (drop n lent)) e
 
-  pub parts_fit : SystemFits (from 6 system) n m
+  pub parts_fit : SystemFits a n m
       × (length (from 5 key) ≡ n)
       × (length (take n lent) ≡ n)
       × IsPerm (length (from n lent)) (from n lent)
@@ -86,16 +86,16 @@ module _ (c bit : ℕ) (system key lent : List ℕ) (h : StandInFits c bit syste
   parts_fit =
       let z = h.size in
       let t : IsPerm n (from n lent) = rw (tail, p) h.well.perm in (
-        rw (rest_part System system 6 refl, p, q) h.system_fits,
+        rw (o, p, q) h.system_fits,
         rw (rest_part Public key 5 refl, p) h.key_fits,
         length-take-le n lent (omega arith),
         subst (λ (k : ℕ). IsPerm k (from n lent)) (sym t.len) t,
         t.len,
       )
 
-  pub parts_stand_in : stand_in (system_of (from 6 system) n m) (from 5 key) c (eqb bit 1) (pair (take n lent) (from n lent)) ≡ stand_in_of c bit system key lent
+  pub parts_stand_in : stand_in (system_of a n m) (from 5 key) c (eqb bit 1) (pair (take n lent) (from n lent)) ≡ stand_in_of c bit system key lent
   unfolding stand_in_of vector_of
-  parts_stand_in = rw (rest_part System system 6 refl, rest_part Public key 5 refl, tail, p, q)
+  parts_stand_in = rw (o, rest_part Public key 5 refl, tail, p, q)
 
 -- ---- a vector and a permutation, lent one behind the other
 

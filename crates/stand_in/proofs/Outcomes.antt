@@ -1,5 +1,6 @@
 -- No second outcome fits what the stand-in's call promises, a refused call changes nothing, and what an accepted call writes has the size told and
 -- passes.
+use Rattle.std.specs.Prelude.{Result, Ok, Err}
 use mathlib.Core.Path.{◌≡◌, sym, ap, ◌∙◌}
 use mathlib.Core.Bool.{true}
 use mathlib.Core.List.{List, [], ◌∷◌}
@@ -12,17 +13,15 @@ use Rattle.refusals.specs.declared.Refusal.{Refusal}
 use Rattle.refusals.specs.Number.{SHAPE, PERM, ROOM}
 use Rattle.refusals.specs.Buffer.{NONE, OUTPUT}
 use Rattle.refusals.specs.Told.{Told, done, fine, first, demand}
-use Rattle.refusals.proofs.Chain.{Passed, UpTo, first_done, test_most, most-more}
+use Rattle.refusals.proofs.Chain.{count_fixes, Passed, UpTo, first_done, test_most, most-more}
 use Rattle.algebra.specs.Residues.{modulus}
 use Rattle.kinds.specs.declared.Kind.TheVariants.{System, Public}
-use Rattle.writers.specs.declared.Written.{Written}
-use Rattle.writers.specs.declared.Written.TheVariants.{Wrote, Refused}
 use Rattle.kinds.specs.Kinds.{alone, of_places}
 use Rattle.frames.specs.Reading.{first_of, second_of, rest_of, reading}
 use Rattle.readers.specs.Choosing.{choices_check}
 use Rattle.readers.proofs.Outcomes.{frame-most, choices-most}
 use Rattle.writers.specs.Writing.{out_after}
-use Rattle.writers.proofs.Outcomes.{written_fixes, room_most, room_one}
+use Rattle.writers.proofs.Outcomes.{room_most, room_one}
 use Rattle.scheme.specs.Round.{system_of, passes}
 use Rattle.scheme.proofs.Laws.{stand_in_passes}
 use Rattle.stand_in_round.specs.Bytes.{round_size, round_bytes}
@@ -31,12 +30,12 @@ use Rattle.stand_in.specs.Standing.{lent_check, standing, stand_in_of, StandsIn}
 use Rattle.stand_in.proofs.Facts.{StandInFits, lent-told}
 
 module _ (c bit : ℕ) (system key lent out : List ℕ) where
-  pub one_stand_in : (r q : Written) (x y : List ℕ) → StandsIn c bit system key lent out r x → StandsIn c bit system key lent out q y → (r ≡ q) × (x ≡ y)
+  pub one_stand_in : (r q : Result ℕ Refusal) (x y : List ℕ) → StandsIn c bit system key lent out r x → StandsIn c bit system key lent out q y → (r ≡ q) × (x ≡ y)
   one_stand_in r q x y p s =
-      let e : r ≡ q = written_fixes r q (p.says ∙ sym s.says) in
-      (e, p.writes ∙ ap (λ (t : Written). out_after t (round_bytes (stand_in_of c bit system key lent)) out) e ∙ sym s.writes)
+      let e : r ≡ q = count_fixes r q (p.says ∙ sym s.says) in
+      (e, p.writes ∙ ap (λ (t : Result ℕ Refusal). out_after t (round_bytes (stand_in_of c bit system key lent)) out) e ∙ sym s.writes)
 
-  pub refused_changes_nothing : (r : Refusal) (after : List ℕ) → StandsIn c bit system key lent out (Refused r) after → after ≡ out
+  pub refused_changes_nothing : (r : Refusal) (after : List ℕ) → StandsIn c bit system key lent out (Err r) after → after ≡ out
   refused_changes_nothing r after p = p.writes
 
   -- a call whose lent bytes pass and for which there is room tells the size of a round
@@ -46,7 +45,7 @@ module _ (c bit : ℕ) (system key lent out : List ℕ) where
 
   -- ---- an accepted call
 
-  module _ (bytes : ℕ) (after : List ℕ) (p : StandsIn c bit system key lent out (Wrote bytes) after) where
+  module _ (bytes : ℕ) (after : List ℕ) (p : StandsIn c bit system key lent out (Ok bytes) after) where
     abbrev n : ℕ
     n = first_of system
 

@@ -1,14 +1,14 @@
 -- What the stand-in's call tells and writes (document 01, "One round" and "Refusal numbers").
-use Rattle.std.specs.Prelude.{◌≡◌, List, [], ◌∷◌, ℕ, eqb, ltb, leb, length}
+use Rattle.refusals.specs.declared.Refusal.{Refusal}
+use Rattle.std.specs.Prelude.{◌≡◌, List, [], ◌∷◌, ℕ, eqb, ltb, leb, length, Result}
 use Rattle.refusals.specs.Number.{SHAPE, ROOM}
 use Rattle.refusals.specs.Buffer.{NONE, OUTPUT}
-use Rattle.refusals.specs.Told.{Told, done, first, demand}
+use Rattle.refusals.specs.Told.{Told, done, first, demand, means_count}
 use Rattle.algebra.specs.Residues.{modulus}
 use Rattle.kinds.specs.declared.Kind.TheVariants.{System, Public}
-use Rattle.writers.specs.declared.Written.{Written}
 use Rattle.kinds.specs.Kinds.{alone, of_places}
 use Rattle.frames.specs.Reading.{first_of, second_of, rest_of, reading}
-use Rattle.writers.specs.Writing.{written_means, out_after}
+use Rattle.writers.specs.Writing.{out_after}
 use Rattle.readers.specs.Choosing.{vector_of, permutation_of, choices_check}
 use Rattle.scheme.specs.Round.{system_of, pair, Opened, stand_in}
 use Rattle.stand_in_round.specs.Bytes.{round_size, round_bytes}
@@ -36,6 +36,6 @@ stand_in_of c bit system key lent =
     (pair (vector_of (first_of system) lent) (permutation_of (first_of system) lent))
 
 -- what the stand-in promises: its answer, and every byte of the output
-pub record StandsIn (c bit : ℕ) (system key lent out : List ℕ) (answer : Written) (after : List ℕ) : Type 0 where
-  pub says : written_means answer ≡ standing c bit system key lent (length out)
+pub record StandsIn (c bit : ℕ) (system key lent out : List ℕ) (answer : Result ℕ Refusal) (after : List ℕ) : Type 0 where
+  pub says : means_count answer ≡ standing c bit system key lent (length out)
   pub writes : after ≡ out_after answer (round_bytes (stand_in_of c bit system key lent)) out

@@ -5,35 +5,26 @@ ghost use Rattle.std.specs.Prelude.{◌≡◌};
 ghost use Rattle.refusals.specs.Told.{means};
 ghost use Rattle.stand_in.specs.Standing.{lent_check, StandsIn};
 
-use algebra::{MODULUS, wide};
-use frames::read::{Read, read_frame};
-use kinds::{AFTER_ONE, AFTER_TWO, FIRST_NUMBER, Kind, SECOND_NUMBER, of_places};
+use algebra::MODULUS;
+use frames::read::read_frame;
+use kinds::{AFTER_ONE, Expected, FIRST_NUMBER, Kind};
 use readers::choices::check_choices;
-use readers::read_system;
-use refusals::buffer::{NONE, OUTPUT};
-use refusals::number::{ROOM, SHAPE};
-use refusals::{Checked, Refusal, refuse};
+use readers::{matrix_of, read};
+use refusals::{Buffer, Reason, Refusal, refuse};
+use round::Pair;
 use sha256::DIGEST;
 use stand_in_round::put_round;
-use writers::Written;
 
 // The numbers, the frames, and what is lent.
-fn check_lent(c: usize, bit: usize, system: &[u8], key: &[u8], lent: &[u8]) -> Checked
+fn check_lent(c: usize, bit: usize, system: &[u8], key: &[u8], lent: &[u8]) -> Result<(), Refusal>
     ensures { means result ≡ lent_check c bit system.now key.now lent.now }
 {
-    if MODULUS as usize <= c {
-        return refuse(SHAPE, NONE, 0);
+    if MODULUS as usize <= c || 2 <= bit {
+        return refuse(Reason::Shape, Buffer::NoBuffer, 0);
     }
-    if 2 <= bit {
-        return refuse(SHAPE, NONE, 0);
-    }
-    if let Read::Refused(x) = read_system(system) {
-        return Checked::Refused(x);
-    }
-    let n = wide(system[FIRST_NUMBER]);
-    if let Read::Refused(x) = read_frame(Kind::Public, of_places(n), key) {
-        return Checked::Refused(x);
-    }
+    read(Kind::System, system)?;
+    let n = usize::from(system[FIRST_NUMBER]);
+    read_frame(Kind::Public, Expected::of_places(n), key)?;
     check_choices(n, 1, lent)
 }
 
@@ -45,32 +36,19 @@ pub fn stand_in(
     key: &[u8],
     lent: &[u8],
     out: &mut [u8],
-) -> Written
+) -> Result<usize, Refusal>
     ensures { StandsIn c bit system.now key.now lent.now out.old result out.new }
 {
-    if let Checked::Refused(x) = check_lent(c, bit, system, key, lent) {
-        return Written::Refused(x);
-    }
-    let n = wide(system[FIRST_NUMBER]);
-    let need = DIGEST + n + n;
+    check_lent(c, bit, system, key, lent)?;
+    let a = matrix_of(system);
+    let need = DIGEST + a.n + a.n;
     if out.len() < need {
-        return Written::Refused(Refusal {
-            number: ROOM,
-            buffer: OUTPUT,
-            place: need,
-        });
+        return refuse(Reason::Room, Buffer::Output, need);
     }
-    let m = wide(system[SECOND_NUMBER]);
-    put_round(
-        &system[AFTER_TWO..],
-        n,
-        m,
-        &key[AFTER_ONE..],
-        c as u8,
-        bit == 1,
-        &lent[..n],
-        &lent[n..],
-        out,
-    );
-    Written::Wrote(need)
+    let x = Pair {
+        vector: &lent[..a.n],
+        permutation: &lent[a.n..],
+    };
+    put_round(&a, &key[AFTER_ONE..], c as u8, bit == 1, x, out);
+    Ok(need)
 }

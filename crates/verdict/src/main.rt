@@ -13,7 +13,7 @@ const STDIN: i32 = 0;
 const MOST_BYTES: usize = 65536;
 
 fn main() {
-    let mut space = [0u8; MOST_BYTES];
+    let mut space = [0; MOST_BYTES];
     let size = io::read_full(STDIN, &mut space);
     tell(judge(&space[..size]));
 }

@@ -1,32 +1,17 @@
 // The line of a verdict: `accepted N`, or `refused NUMBER BUFFER PLACE`.
-use algebra::wide;
+use hosting::text::{say, say_with};
 use refusals::Refusal;
-use register_rules::Verdict;
-
-// Standard output.
-const STDOUT: i32 = 1;
-
-fn tell_number(x: usize) {
-    io::write_all(STDOUT, b" ");
-    io::print_decimal(STDOUT, x as u64);
-}
-
-fn tell_accepted(rounds: usize) {
-    io::write_all(STDOUT, b"accepted");
-    tell_number(rounds);
-}
 
 fn tell_refused(x: Refusal) {
-    io::write_all(STDOUT, b"refused");
-    tell_number(wide(x.number));
-    tell_number(wide(x.buffer));
-    tell_number(x.place);
+    say_with(b"refused ", usize::from(x.reason.number()));
+    say_with(b" ", usize::from(x.buffer.number()));
+    say_with(b" ", x.place);
 }
 
-pub fn tell(answer: Verdict) {
-    match answer {
-        Verdict::Accepted(rounds) => tell_accepted(rounds),
-        Verdict::Refused(x) => tell_refused(x),
+pub fn tell(told: Result<usize, Refusal>) {
+    match told {
+        Ok(rounds) => say_with(b"accepted ", rounds),
+        Err(x) => tell_refused(x),
     }
-    io::write_all(STDOUT, b"\n");
+    say(b"\n");
 }

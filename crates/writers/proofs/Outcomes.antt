@@ -1,43 +1,30 @@
 -- For each writer: no second outcome fits what it promises, and a refused one changes nothing. And what it tells.
-use mathlib.Core.Path.{◌≡◌, refl, sym, ap, ◌∙◌}
+use Rattle.std.specs.Prelude.{Result, Err}
+use mathlib.Core.Path.{◌≡◌, sym, ap, ◌∙◌}
 use mathlib.Core.List.{List, [], ◌∷◌}
 use Prim.Native.Nat.{ℕ}
 use native.Mathlib.Omega.{arith}
 use lib.Dec.{eqb, leb}
-use lib.ListN.{length, get_or}
+use lib.ListN.{length}
 use Rattle.refusals.specs.declared.Refusal.{Refusal}
 use Rattle.refusals.specs.Number.{SHAPE, PERM, ROOM}
 use Rattle.refusals.specs.Buffer.{NONE, OUTPUT}
-use Rattle.refusals.specs.Told.{Told, done, refused, first, demand}
-use Rattle.refusals.proofs.Chain.{UpTo, first_done, ends_done, done_most, demand-most, first-most, test_most, most-more}
+use Rattle.refusals.specs.Told.{Told, done, first, demand}
+use Rattle.refusals.proofs.Chain.{count_fixes, UpTo, first_done, ends_done, done_most, demand-most, first-most, test_most, most-more}
 use Rattle.kinds.specs.declared.Kind.{Kind}
 use Rattle.kinds.specs.Kinds.{alone, table, fits, frame_size}
 use Rattle.bodies.specs.Bodies.{spare_clear, content}
 use Rattle.readers.proofs.Outcomes.{content-most}
-use Rattle.writers.specs.declared.Written.{Written}
-use Rattle.writers.specs.declared.Written.TheVariants.{Wrote, Refused}
-use Rattle.writers.specs.Writing.{frame, plain_check, writing, written_means, out_after, Writes}
+use Rattle.writers.specs.Writing.{frame, plain_check, writing, out_after, Writes}
 
-writer : Told → Written
-writer (done v) = Wrote (get_or v 0 0)
-writer (refused x y z) = Refused (record { number = x; buffer = y; place = z })
-
-writer-means : (a : Written) → writer (written_means a) ≡ a
-unfolding writer
-writer-means (Wrote n) = refl
-writer-means (Refused r) = refl
-
-pub written_fixes : (a b : Written) → written_means a ≡ written_means b → a ≡ b
-written_fixes a b e = sym (writer-means a) ∙ ap writer e ∙ writer-means b
-
-pub one_writing : (k : Kind) (a b : ℕ) (plain out : List ℕ) (r q : Written) (x y : List ℕ)
+pub one_writing : (k : Kind) (a b : ℕ) (plain out : List ℕ) (r q : Result ℕ Refusal) (x y : List ℕ)
     → Writes k a b plain out r x → Writes k a b plain out q y → (r ≡ q) × (x ≡ y)
 one_writing k a b plain out r q x y p s =
-    let e : r ≡ q = written_fixes r q (p.says ∙ sym s.says) in
-    (e, p.writes ∙ ap (λ (t : Written). out_after t (frame k a b plain) out) e ∙ sym s.writes)
+    let e : r ≡ q = count_fixes r q (p.says ∙ sym s.says) in
+    (e, p.writes ∙ ap (λ (t : Result ℕ Refusal). out_after t (frame k a b plain) out) e ∙ sym s.writes)
 
 pub refused_writes_nothing : (k : Kind) (a b : ℕ) (plain out : List ℕ) (r : Refusal) (after : List ℕ)
-    → Writes k a b plain out (Refused r) after → after ≡ out
+    → Writes k a b plain out (Err r) after → after ≡ out
 refused_writes_nothing k a b plain out r after p = p.writes
 
 -- ---- ROOM after a check, and then the bytes written: by which numbers it is refused, and what a success tells

@@ -1,4 +1,5 @@
 -- Laws of writing: the heading, and the orders of refusals, an answer each, as the code finds them.
+use Rattle.std.specs.Prelude.{⊤, Result, Ok, Err}
 use mathlib.Core.Path.{◌≡◌, refl, sym, ◌∙◌}
 use mathlib.Core.Bool.{true, false}
 use mathlib.Core.List.{List, [], ◌∷◌}
@@ -10,8 +11,6 @@ use lib.Dec.{eqb, leb}
 use lib.ListN.{length, take}
 use lib.Seq.{length-take-le}
 use Rattle.refusals.specs.declared.Refusal.{Refusal}
-use Rattle.refusals.specs.declared.Checked.{Checked}
-use Rattle.refusals.specs.declared.Checked.TheVariants.{Fine, Refused}
 use Rattle.refusals.specs.Number.{SHAPE, ROOM}
 use Rattle.refusals.specs.Buffer.{NONE, OUTPUT}
 use Rattle.refusals.specs.Told.{Told, done, refused, fine, told, means, first, demand}
@@ -31,9 +30,6 @@ laid start count version number a b = take start (count / 256 ∷ count % 256 �
 
 pub laid-length : (start count version number a b : ℕ) → start ≤ 6 → length (laid start count version number a b) ≡ start
 laid-length start count version number a b l = length-take-le start _ l
-
-pub laid-fits : (start count version number a b room : ℕ) → start ≤ 6 → start ≤ room → length (laid start count version number a b) ≤ room
-laid-fits start count version number a b room l h = rw (laid-length start count version number a b l) h
 
 pub laid-heading : (k : Kind) (start size version number a b : ℕ) → start ≡ (table k).start → version ≡ (table k).version → number ≡ (table k).number
     → laid start (start - 2 + size) version number a b ≡ heading k ((table k).start - 2 + size) a b
@@ -78,16 +74,16 @@ module _ (k : Kind) (a b : ℕ) (plain : List ℕ) where
     unfolding plain_check
     bad-length b' e f = rw (t, ne_eqb (length plain) ((table k).size a b) f, e)
 
-    module _ (n : length plain ≡ (table k).size a b) (r : Checked) (m : means r ≡ content k a b 0 plain) where
-      pub bad-content : (x : Refusal) → r ≡ Refused x → told x ≡ plain_check k a b plain
+    module _ (n : length plain ≡ (table k).size a b) (r : Result ⊤ Refusal) (m : means r ≡ content k a b 0 plain) where
+      pub bad-content : (x : Refusal) → r ≡ Err x → told x ≡ plain_check k a b plain
       unfolding plain_check
       bad-content x e = rw (t, eq-eqb (length plain) ((table k).size a b) n) (stops _ m e)
 
-      pub bad-spare : (b' : ℕ) → b' ≡ (table k).buffer → r ≡ Fine → spare_clear k a plain ≡ false → refused SHAPE b' 0 ≡ plain_check k a b plain
+      pub bad-spare : (b' : ℕ) → b' ≡ (table k).buffer → r ≡ (Ok tt) → spare_clear k a plain ≡ false → refused SHAPE b' 0 ≡ plain_check k a b plain
       unfolding plain_check
       bad-spare b' p e f = rw (t, eq-eqb (length plain) ((table k).size a b) n) (goes_on m e (rw (f, p)))
 
-      pub good-plain : r ≡ Fine → spare_clear k a plain ≡ true → fine ≡ plain_check k a b plain
+      pub good-plain : r ≡ (Ok tt) → spare_clear k a plain ≡ true → fine ≡ plain_check k a b plain
       unfolding plain_check
       good-plain e f = rw (t, eq-eqb (length plain) ((table k).size a b) n) (goes_on m e (rw f))
 

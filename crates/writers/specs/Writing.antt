@@ -1,12 +1,11 @@
 -- What a writer tells and writes (document 01, "Frames" and "Refusal numbers").
-use Rattle.std.specs.Prelude.{◌≡◌, List, [], ◌∷◌, ◌++◌, ℕ, ◌+◌, ◌-◌, ◌/◌, ◌%◌, leb, eqb, length, take}
+use Rattle.refusals.specs.declared.Refusal.{Refusal}
+use Rattle.std.specs.Prelude.{◌≡◌, List, [], ◌∷◌, ◌++◌, ℕ, ◌+◌, ◌-◌, ◌/◌, ◌%◌, leb, eqb, length, take, Result, Ok, Err}
 use Rattle.refusals.specs.Number.{SHAPE, ROOM}
 use Rattle.refusals.specs.Buffer.{NONE, OUTPUT}
-use Rattle.refusals.specs.Told.{Told, done, told, first, demand}
+use Rattle.refusals.specs.Told.{Told, done, first, demand, means_count}
 use Rattle.algebra.specs.Lists.{over}
 use Rattle.kinds.specs.declared.Kind.{Kind}
-use Rattle.writers.specs.declared.Written.{Written}
-use Rattle.writers.specs.declared.Written.TheVariants.{Wrote, Refused}
 use Rattle.kinds.specs.Kinds.{table, fits, alone, frame_size}
 use Rattle.bodies.specs.Bodies.{spare_clear, content}
 
@@ -32,17 +31,12 @@ writing k a b plain room =
     first (plain_check k a b plain)
     (first (demand (leb (frame_size k a b) room) ROOM OUTPUT (frame_size k a b)) (done (frame_size k a b ∷ [])))
 
--- what a writer's answer means
-abbrev pub written_means : Written → Told
-written_means (Wrote bytes) = done (bytes ∷ [])
-written_means (Refused r) = told r
-
 -- the output afterwards: l over its front, or all that it held
-abbrev pub out_after : Written → List ℕ → List ℕ → List ℕ
-out_after (Wrote bytes) l out = over l out
-out_after (Refused r) l out = out
+abbrev pub out_after : Result ℕ Refusal → List ℕ → List ℕ → List ℕ
+out_after (Ok bytes) l out = over l out
+out_after (Err r) l out = out
 
 -- what a writer promises: its answer, and every byte of the output
-pub record Writes (k : Kind) (a b : ℕ) (plain out : List ℕ) (answer : Written) (after : List ℕ) : Type 0 where
-  pub says : written_means answer ≡ writing k a b plain (length out)
+pub record Writes (k : Kind) (a b : ℕ) (plain out : List ℕ) (answer : Result ℕ Refusal) (after : List ℕ) : Type 0 where
+  pub says : means_count answer ≡ writing k a b plain (length out)
   pub writes : after ≡ out_after answer (frame k a b plain) out

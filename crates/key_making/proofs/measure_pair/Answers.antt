@@ -7,13 +7,14 @@ use Rattle.random.specs.Sequences.{draw_residues}
 use Rattle.random.proofs.Sequences.{then_used, then_short}
 use Rattle.key_making.proofs.measure_pair.Goals as goal
 
-pub returns-in-RanOut : goal.returns-in-RanOut
+pub returns-in_err-p : goal.returns-in_err-p
 unfolding draw_pair
-returns-in-RanOut c = let g = c.args in
-    then_short (draw_permutation g.n g.random.now 0) (draw_residues (g.n - g.m) g.random.now) (sym c.in-RanOut.is ∙ c.measure_permutation.ensures)
+returns-in_err-p c = let g = c.args in
+    c.from_residual.ensures
+    ∙ then_short (draw_permutation g.n g.random.now 0) (draw_residues (g.n - g.m) g.random.now) (sym c.in_err-p.was ∙ c.measure_permutation.ensures)
 
-pub returns-in-To : goal.returns-in-To
+pub returns : goal.returns
 unfolding draw_pair
-returns-in-To c = let g = c.args in
+returns c = let g = c.args in
     c.measure_below.ensures
-    ∙ then_used (draw_permutation g.n g.random.now 0) (draw_residues (g.n - g.m) g.random.now) _ (sym c.in-To.is ∙ c.measure_permutation.ensures)
+    ∙ then_used (draw_permutation g.n g.random.now 0) (draw_residues (g.n - g.m) g.random.now) _ (sym c.in_ok-p.was ∙ c.measure_permutation.ensures)

@@ -1,16 +1,21 @@
--- `unused_clear` meets its contract: the bits from N to k are clear.
-use mathlib.Core.Path.{sym, ◌∙◌}
-use Rattle.packed_bits.proofs.Unused.{clear_none, clear-more, clear-all, clear_not}
+-- `unused_clear` meets its contract: the numbers looked at are those from N to the last bit.
+use mathlib.Core.Path.{refl, ◌∙◌}
+use mathlib.Core.Bool.{not}
+use Prim.Native.Nat.{ℕ, ◌-◌, ◌*◌}
+use lib.ListN.{length}
+use borrow.Author.Rules.{rules}
+use borrow.Author.Tests.{tests}
+use Rattle.std.proofs.lemmas.Iterator.{YieldsList-from_range}
+use Rattle.std.proofs.lemmas.Iterator.Search.{all_from_yields_List}
+use Rattle.packed_bits.specs.PackedBits.{bit_at, clear_from, unused_clear}
+use Rattle.packed_bits.proofs.Unused.{all_range}
 use Rattle.packed_bits.proofs.unused_clear.Goals as goal
 
-pub loop-k-init : goal.loop-k-init
-loop-k-init c = clear_none _ _
-
-pub returns-then-bit_at : goal.returns-then-bit_at
-returns-then-bit_at c = clear_not _ _ _ c.loop-k.invariant c.loop-k-test.true (sym c.bit_at.ensures ∙ c.if-bit_at.true)
-
-pub loop-k-preserved : goal.loop-k-preserved
-loop-k-preserved c = clear-more _ _ _ c.loop-k.invariant (sym c.bit_at.ensures ∙ c.if-bit_at.false)
-
 pub returns : goal.returns
-returns c = clear-all _ _ _ c.loop-k.invariant c.loop-k-test.false
+unfolding unused_clear
+returns c =
+    let bytes = c.args.bytes.now in
+    let N = c.args.rounds in
+    let n = 8 * length bytes - N in
+    all_from_yields_List (λ (k : ℕ). not (bit_at bytes k)) _ _ _ c.all.ensures.ran (YieldsList-from_range N (8 * length bytes) n (cc) refl) (λ x b q k. search (rules, tests))
+    ∙ all_range _ (clear_from N bytes) N n (λ j l. refl)

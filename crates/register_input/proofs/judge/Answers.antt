@@ -4,4 +4,19 @@ use Rattle.register_input.proofs.judge.Goals as goal
 
 pub returns : goal.returns
 unfolding judging_input sign_on_of
-returns c = rw (c.grade_of.ensures, c.front.ensures, c.front-2.ensures, c.front-3.ensures, c.front-4.ensures, c.front-5.ensures, c.front-6.ensures, c.behind-openings.ensures, c.behind-bits.ensures, c.behind-answers.ensures, c.behind-challenges.ensures, c.behind-commitments.ensures, c.behind-key.ensures, c.frames_of-system.ensures) at c.verdict.ensures.says
+returns c = rw (
+  c.grade_and_frames-grade.ensures.0,
+  c.cut.ensures.0,
+  c.cut-2.ensures.0,
+  c.cut-3.ensures.0,
+  c.cut-4.ensures.0,
+  c.cut-5.ensures.0,
+  c.cut-6.ensures.0,
+  c.cut-6.ensures.1,
+  c.cut-5.ensures.1,
+  c.cut-4.ensures.1,
+  c.cut-3.ensures.1,
+  c.cut-2.ensures.1,
+  c.cut.ensures.1,
+  c.grade_and_frames-grade.ensures.1,
+) at c.verdict.ensures.says

@@ -9,5 +9,6 @@ use Rattle.stand_in_round.proofs.put_answer.Goals as goal
 
 pub returns : goal.returns
 returns c = let d = c.args.out.now in
+    let x = c.args.x in
     ap (put_mid c.args.at (length d - c.args.at) d) c.stand_in_answer_into.ensures
-    ∙ answer-over c.args.v.now c.args.c c.args.bit c.args.u.now c.args.theta.now d c.args.at (length d - c.args.at) c.requires.2 c.requires.0 (omega arith) (omega arith)
+    ∙ answer-over c.args.v.now c.args.c c.args.bit x.vector.now x.permutation.now d c.args.at (length d - c.args.at) x.even c.requires.0 (omega arith) (omega arith)

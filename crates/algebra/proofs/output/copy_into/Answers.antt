@@ -1,17 +1,16 @@
 -- `copy_into` meets its contract: a list is the table of its entries, written one a turn.
 use mathlib.Core.Path.{refl}
 use native.Mathlib.Omega.{arith}
-use borrow.Author.Rules.{rules}
 use lib.ListN.{length}
 use Rattle.algebra.proofs.Lists.{tab_of, tabulated_none, tabulated_more, tabulated_all}
 use Rattle.algebra.proofs.output.copy_into.Goals as goal
 
 pub loop-j-init : goal.loop-j-init
-loop-j-init c = (search rules, tabulated_none _ _)
+loop-j-init c = tabulated_none _ _
 
 pub loop-j-preserved : goal.loop-j-preserved
-loop-j-preserved c = (search rules, tabulated_more _ _ _ _ _ c.loop-j.invariant.1 (omega arith) refl)
+loop-j-preserved c = tabulated_more _ _ _ _ _ c.loop-j.invariant (omega arith) refl
 
 pub returns : goal.returns
 returns c = let l = c.args.list.now in
-    tabulated_all _ _ _ _ _ _ c.loop-j.invariant.1 (omega arith) (tab_of (length l) l _ refl (λ j h. refl))
+    tabulated_all _ _ _ _ _ _ c.loop-j.invariant (omega arith) (tab_of (length l) l _ refl (λ j h. refl))

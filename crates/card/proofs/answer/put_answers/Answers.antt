@@ -9,18 +9,11 @@ use Rattle.algebra.proofs.Lists.{length-joined}
 use Rattle.algebra.specs.Lists.{joined}
 use Rattle.algebra.specs.Residues.{modulus}
 use Rattle.card_steps.proofs.Parts.{body_written}
-use Rattle.frames.proofs.Facts.{size_small}
 use Rattle.kinds.specs.declared.Kind.TheVariants.{Answers}
 use Rattle.rounds.proofs.Runs.{answer-length}
 use Rattle.rounds.specs.Layout.{pair_at}
 use Rattle.rounds.specs.Rounds.{answer_at}
 use Rattle.card.proofs.answer.put_answers.Goals as goal
-
-pub overflow_mul-n : goal.overflow_mul-n
-overflow_mul-n c = let h = c.requires in let s = size_small Answers _ _ h.1 h.2 in omega arith
-
-pub put_heading-requires : goal.put_heading-requires
-put_heading-requires c = let h = c.requires in let s = size_small Answers _ _ h.1 h.2 in (omega arith, omega arith, omega arith, omega arith)
 
 pub returns : goal.returns
 returns c = let g = c.args in let f = answer_at modulus g.n g.v.now g.pi.now g.challenges.now g.choices.now in

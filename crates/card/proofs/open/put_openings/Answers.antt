@@ -8,18 +8,11 @@ use borrow.Rule.Slice.PartMut.{put_mid}
 use Rattle.algebra.proofs.Lists.{length-joined}
 use Rattle.algebra.specs.Lists.{joined}
 use Rattle.card_steps.proofs.Parts.{body_written}
-use Rattle.frames.proofs.Facts.{size_small}
 use Rattle.packed_bits.specs.PackedBits.{bit_at}
 use Rattle.kinds.specs.declared.Kind.TheVariants.{Openings}
 use Rattle.rounds.proofs.Runs.{opening-length}
 use Rattle.rounds.specs.Rounds.{opening_at}
 use Rattle.card.proofs.open.put_openings.Goals as goal
-
-pub overflow_mul-n : goal.overflow_mul-n
-overflow_mul-n c = let h = c.requires in let s = size_small Openings _ _ h.1 h.2 in omega arith
-
-pub put_heading-requires : goal.put_heading-requires
-put_heading-requires c = let h = c.requires in let s = size_small Openings _ _ h.1 h.2 in (omega arith, omega arith, omega arith, omega arith)
 
 pub returns : goal.returns
 returns c = let g = c.args in let f = opening_at g.n g.pi.now g.bits.now g.choices.now in

@@ -1,68 +1,92 @@
 -- `check_answer` meets its contract: the chain, as the code goes through it.
-use mathlib.Core.Path.{sym, ap, ◌∙◌}
+use mathlib.Core.Path.{◌≡◌, sym, ap, ◌∙◌}
 use mathlib.Core.List.{[]}
 use Prim.Native.Nat.{◌≤◌}
 use native.Mathlib.Omega.{arith}
-use borrow.Author.Tests.{eq-eqb, ne_eqb}
-use Rattle.card_rules.proofs.Facts.{keys-told}
-use Rattle.card_rules.proofs.Orders.{test_goes_on, test_stops}
-use Rattle.card_rules.proofs.Records.{record_told}
-use Rattle.card_rules.specs.Asking.{answer_check}
-use Rattle.card_rules.specs.Keys.{keys}
-use Rattle.card_rules.specs.Lent.{KeysFit}
-use Rattle.card_rules.specs.Stages.{COMMITTED}
-use Rattle.frames.proofs.Facts.{size_small}
-use Rattle.frames.proofs.Orders.{frame_goes_on, frame-stops}
-use Rattle.kinds.specs.declared.Kind.TheVariants.{Answers}
-use Rattle.refusals.proofs.Chain.{goes_on, stops}
+use lib.Dec.{eqb}
+use Rattle.refusals.specs.Buffer.{NONE}
+use Rattle.refusals.specs.Number.{STAGE}
 use Rattle.refusals.specs.Told.{means}
+use Rattle.refusals.proofs.Chain.{goes_on, stops, handed_on, demand_done}
+use Rattle.kinds.specs.Kinds.{exactly}
+use Rattle.kinds.specs.declared.Kind.TheVariants.{Challenges}
+use Rattle.frames.specs.Reading.{Reads}
+use Rattle.frames.proofs.Orders.{frame_goes_on, frame-stops}
+use Rattle.card_rules.specs.Stages.{COMMITTED}
+use Rattle.card_rules.specs.Parts.{as_keys}
+use Rattle.card_rules.specs.Keys.{places_of, rows_of}
+use Rattle.card_rules.specs.Lent.{KeysFit}
+use Rattle.card_rules.specs.Asking.{staged, record_fits, answer_check}
+use Rattle.card_rules.proofs.Facts.{keys-told}
+use Rattle.card_rules.proofs.Records.{record_told}
 use Rattle.card_checks.proofs.order.check_answer.Goals as goal
-use Rattle.card_checks.proofs.order.check_answer.Goals.{After-wide-rounds, In_default}
+use Rattle.card_checks.proofs.order.check_answer.Goals.{After-staged, In_ok-check_keys, After-staged-2, In_ok-staged-2, After-read_frame}
 
 -- past the frames
-keys_fine : (c : In_default) → KeysFit (keys c.args.system.now c.args.public.now c.args.secret.now)
-keys_fine c = keys-told _ [] (sym c.check_keys.ensures ∙ ap means c.in_default.is)
+keys_fine : (c : In_ok-check_keys) → KeysFit (as_keys c.args.keys.now)
+keys_fine c = keys-told _ [] (sym c.check_keys.ensures ∙ ap means c.in_ok-check_keys.was)
 
--- n and N are at most 64
-numbers_fit : (c : After-wide-rounds) → (c.wide-n.result ≤ 64) × (c.wide-rounds.result ≤ 64)
-numbers_fit c = let f = (keys-told _ [] (sym c.check_keys.ensures ∙ ap means c.in_default.is)).system.most in
-    let t = record_told c.args.session c.wide-n.result c.wide.result (sym c.record_fits.ensures ∙ c.if-not-record_fits.false) in
-    (omega (arith, c.wide-n.ensures.0), omega (arith, t.3, c.wide-rounds.ensures.0))
+-- the links, by what they are to mean
+stage : (c : After-staged) → means c.staged.result ≡ staged (eqb c.args.session.stage COMMITTED)
+stage c = c.staged.ensures
 
-pub returns-then-session-ne-COMMITTED : goal.returns-then-session-ne-COMMITTED
+fitting : (c : After-staged-2) → means c.staged-2.result ≡ staged (record_fits c.args.session (places_of (as_keys c.args.keys.now)) (rows_of (as_keys c.args.keys.now)))
+fitting c = rw (c.record_fits.ensures, c.matrix-a.ensures.places, c.matrix-a.ensures.rows) at c.staged-2.ensures
+
+sent : (c : After-read_frame) → Reads Challenges (exactly (places_of (as_keys c.args.keys.now)) c.args.session.rounds) c.args.message.now c.read_frame.result
+sent c = rw (c.exactly.ensures, c.matrix-a.ensures.places, c.from-rounds.ensures) at c.read_frame.ensures
+
+-- N is at most 64
+rounds_fit : (c : In_ok-staged-2) → c.args.session.rounds ≤ 64
+rounds_fit c = (record_told c.args.session c.matrix-a.result.n c.matrix-a.result.m (rw c.record_fits.ensures at (demand_done _ STAGE NONE 0 [] (sym c.staged-2.ensures ∙ ap means c.in_ok-staged-2.was)))).3
+
+pub returns-in_err-staged : goal.returns-in_err-staged
 unfolding answer_check
-returns-then-session-ne-COMMITTED c = c.refuse.ensures ∙ test_stops _ _ _ _ (ne_eqb _ COMMITTED c.if-session-ne-COMMITTED.true)
+returns-in_err-staged c =
+    ap means (handed_on c.from_residual.ensures) ∙ stops _ (stage (goal.at.returns-in_err-staged c).After-staged) c.in_err-staged.was
 
-pub returns-in-Refused : goal.returns-in-Refused
+pub returns-in_err-check_keys : goal.returns-in_err-check_keys
 unfolding answer_check
-returns-in-Refused c = test_goes_on _ _ _ (eq-eqb _ COMMITTED c.if-session-ne-COMMITTED.false) (stops _ c.check_keys.ensures c.in-Refused.is)
+returns-in_err-check_keys c =
+    ap means (handed_on c.from_residual-in_err-check_keys.ensures)
+    ∙ goes_on (stage (goal.at.returns-in_err-check_keys c).After-staged) c.in_ok-staged.was
+    (stops _ c.check_keys.ensures c.in_err-check_keys.was)
 
-pub bounds-system-4 : goal.bounds-system-4
-bounds-system-4 c = let t = (keys_fine (goal.at.bounds-system-4 c).In_default).system_there in omega arith
+pub matrix-a-requires : goal.matrix-a-requires
+matrix-a-requires c = keys_fine (goal.at.matrix-a-requires c).In_ok-check_keys
 
-pub bounds-system-5 : goal.bounds-system-5
-bounds-system-5 c = let t = (keys_fine (goal.at.bounds-system-5 c).In_default).system_there in omega arith
-
-pub returns-then-not-record_fits : goal.returns-then-not-record_fits
+pub returns-in_err-staged-2 : goal.returns-in_err-staged-2
 unfolding answer_check
-returns-then-not-record_fits c = c.refuse-then-not-record_fits.ensures ∙ test_goes_on _ _ _ (eq-eqb _ COMMITTED c.if-session-ne-COMMITTED.false) (goes_on c.check_keys.ensures c.in_default.is (test_stops _ _ _ _ (rw (c.wide-n.ensures.0, c.wide.ensures.0) at (sym c.record_fits.ensures) ∙ c.if-not-record_fits.true)))
+returns-in_err-staged-2 c = let q = goal.at.returns-in_err-staged-2 c in
+    ap means (handed_on c.from_residual-in_err-staged-2.ensures)
+    ∙ goes_on (stage q.After-staged) c.in_ok-staged.was
+    (goes_on c.check_keys.ensures c.in_ok-check_keys.was
+    (stops _ (fitting q.After-staged-2) c.in_err-staged-2.was))
 
 pub read_frame-requires : goal.read_frame-requires
-read_frame-requires c = rw c.exactly.ensures (let f = numbers_fit (goal.at.read_frame-requires c).After-wide-rounds in record { places = f.0; rounds = f.1 })
+read_frame-requires c = let q = goal.at.read_frame-requires c in
+    let n = (keys_fine q.In_ok-check_keys).system.most in
+    let r = rounds_fit q.In_ok-staged-2 in
+    rw (c.exactly.ensures, c.matrix-a.ensures.places, c.from-rounds.ensures) (record { places = n; rounds = r })
 
-pub returns-in-Refused-read_frame : goal.returns-in-Refused-read_frame
+pub returns-in_err-read_frame : goal.returns-in_err-read_frame
 unfolding answer_check
-returns-in-Refused-read_frame c = test_goes_on _ _ _ (eq-eqb _ COMMITTED c.if-session-ne-COMMITTED.false) (goes_on c.check_keys.ensures c.in_default.is (test_goes_on _ _ _ (rw (c.wide-n.ensures.0, c.wide.ensures.0) at (sym c.record_fits.ensures) ∙ c.if-not-record_fits.false) (frame-stops _ (rw (c.exactly.ensures, c.wide-n.ensures.0, c.wide-rounds.ensures.0) at c.read_frame.ensures).says c.in-Refused-read_frame.is)))
-
-pub overflow_mul-n : goal.overflow_mul-n
-overflow_mul-n c = let f = numbers_fit (goal.at.overflow_mul-n c).After-wide-rounds in let s = size_small Answers _ _ f.0 f.1 in omega arith
-
-pub overflow_add-n : goal.overflow_add-n
-overflow_add-n c = let f = numbers_fit (goal.at.overflow_add-n c).After-wide-rounds in let s = size_small Answers _ _ f.0 f.1 in omega arith
+returns-in_err-read_frame c = let q = goal.at.returns-in_err-read_frame c in
+    ap means (handed_on c.from_residual-in_err-read_frame.ensures)
+    ∙ goes_on (stage q.After-staged) c.in_ok-staged.was
+    (goes_on c.check_keys.ensures c.in_ok-check_keys.was
+    (goes_on (fitting q.After-staged-2) c.in_ok-staged-2.was
+    (frame-stops _ (sent q.After-read_frame).says c.in_err-read_frame.was)))
 
 pub check_rest-requires : goal.check_rest-requires
-check_rest-requires c = let f = numbers_fit (goal.at.check_rest-requires c).After-wide-rounds in (keys_fine (goal.at.check_rest-requires c).In_default, omega (arith, f.1))
+check_rest-requires c = let q = goal.at.check_rest-requires c in
+    let r = rounds_fit q.In_ok-staged-2 in
+    (keys_fine q.In_ok-check_keys, omega (arith, c.from-rounds.ensures))
 
 pub returns : goal.returns
 unfolding answer_check
-returns c = test_goes_on _ _ _ (eq-eqb _ COMMITTED c.if-session-ne-COMMITTED.false) (goes_on c.check_keys.ensures c.in_default.is (test_goes_on _ _ _ (rw (c.wide-n.ensures.0, c.wide.ensures.0) at (sym c.record_fits.ensures) ∙ c.if-not-record_fits.false) (frame_goes_on (rw (c.exactly.ensures, c.wide-n.ensures.0, c.wide-rounds.ensures.0) at c.read_frame.ensures).says c.in_default-read_frame.is (rw (c.wide-n.ensures.0, c.wide-rounds.ensures.0) at c.check_rest.ensures))))
+returns c = let q = goal.at.returns c in
+    goes_on (stage q.After-staged) c.in_ok-staged.was
+    (goes_on c.check_keys.ensures c.in_ok-check_keys.was
+    (goes_on (fitting q.After-staged-2) c.in_ok-staged-2.was
+    (frame_goes_on (sent q.After-read_frame).says c.in_ok-read_frame.was (rw (c.matrix-a.ensures.places, c.from-rounds.ensures) at c.check_rest.ensures))))

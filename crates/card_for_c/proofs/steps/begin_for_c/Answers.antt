@@ -3,4 +3,4 @@ use Rattle.card_for_c.proofs.ForC.{begin_for_c}
 use Rattle.card_for_c.proofs.steps.begin_for_c.Goals as goal
 
 pub returns : goal.returns
-returns c = begin_for_c _ _ c.of_writing.ensures _ _ _ _ _ _ c.begin_step-step.ensures
+returns c = begin_for_c _ _ c.of_count.ensures _ _ _ _ _ _ c.begin_step-step.ensures

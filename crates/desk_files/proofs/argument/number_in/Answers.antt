@@ -1,32 +1,38 @@
 -- `number_in` meets its contract: each way that the loop goes has its law.
-use Rattle.std.proofs.Common.{◌∙◌, arith}
-use Rattle.desk_files.proofs.Numbers.{number-none, number-starts, number_end, number_low, number-high, number_large, number_goes_on}
+use Rattle.std.proofs.Common.{◌∙◌, ◌+◌, sym, ap, drop, arith, rules}
+use Rattle.desk_files.specs.Numbers.{number_from}
+use Rattle.desk_files.proofs.Numbers.{number-none, number-starts, number_end, number_stops, number_large, digit_is, number_takes}
 use Rattle.desk_files.proofs.argument.number_in.Goals as goal
 
-pub returns-then-text-eq0 : goal.returns-then-text-eq0
-returns-then-text-eq0 c = number-none c.args.text.now c.if-text-eq0.true
+pub returns-then-is_empty : goal.returns-then-is_empty
+returns-then-is_empty c = number-none c.args.text.now (search rules)
 
-pub loop-i-init : goal.loop-i-init
-loop-i-init c = record { within = omega arith; small = omega arith; rest = number-starts c.args.text.now (omega arith) }
+pub loop-x-init : goal.loop-x-init
+loop-x-init c = number-starts c.args.text.now (search rules)
 
-pub returns-then-x-lt-ZERO : goal.returns-then-x-lt-ZERO
-returns-then-x-lt-ZERO c =
-    number_low c.args.text.now c.loop-i.value c.loop-i.i c.wide-x.result (omega arith) c.wide-x.ensures.0 (omega arith) ∙ c.loop-i.invariant.rest
+pub returns-in_err-checked_mul : goal.returns-in_err-checked_mul
+returns-in_err-checked_mul c =
+    let large = c.in_err-checked_mul.ensures in
+    c.from_residual.ensures ∙ number_large c.args.text.now c.loop-x.value c.loop-x.x-index (omega arith) (omega arith) ∙ c.loop-x.invariant
 
-pub returns-then-x-gt-NINE : goal.returns-then-x-gt-NINE
-returns-then-x-gt-NINE c =
-    number-high c.args.text.now c.loop-i.value c.loop-i.i c.wide-x.result (omega arith) c.wide-x.ensures.0 (omega arith) (omega arith) ∙ c.loop-i.invariant.rest
+pub returns-in_err-digit_of : goal.returns-in_err-digit_of
+returns-in_err-digit_of c =
+    c.from_residual-in_err-digit_of.ensures
+    ∙ number_stops c.args.text.now c.loop-x.value c.loop-x.x-index (omega arith) (sym c.digit_of.ensures ∙ c.in_err-digit_of.was) ∙ c.loop-x.invariant
 
-pub returns-then-value-gt-NUMBER_MOST : goal.returns-then-value-gt-NUMBER_MOST
-returns-then-value-gt-NUMBER_MOST c =
-    number_large c.args.text.now c.loop-i.value c.loop-i.i c.wide-x.result (omega arith) c.wide-x.ensures.0 (omega arith) (omega arith) (omega arith) ∙ c.loop-i.invariant.rest
+pub returns-in_err-value : goal.returns-in_err-value
+returns-in_err-value c =
+    let large = c.in_err-value.ensures in
+    let tens = c.in_ok-checked_mul.ensures in
+    let digit = digit_is c.args.text.now c.loop-x.value c.loop-x.x-index (omega arith) c.in_ok-digit_of.field-0 (sym c.digit_of.ensures ∙ c.in_ok-digit_of.was) in
+    c.from_residual-in_err-value.ensures ∙ number_large c.args.text.now c.loop-x.value c.loop-x.x-index (omega arith) (omega arith) ∙ c.loop-x.invariant
 
-pub loop-i-preserved : goal.loop-i-preserved
-loop-i-preserved c = record {
-  within = omega arith;
-  small = omega arith;
-  rest = number_goes_on c.args.text.now c.loop-i.value c.loop-i.i c.wide-x.result (omega arith) c.wide-x.ensures.0 (omega arith) (omega arith) (omega arith) ∙ c.loop-i.invariant.rest;
-}
+pub loop-x-preserved : goal.loop-x-preserved
+loop-x-preserved c =
+    let tens = c.in_ok-checked_mul.ensures in
+    let sum = c.in_ok-value.ensures in
+    ap (λ v. number_from v (drop (c.loop-x.x-index + 1) c.args.text.now)) (omega arith)
+    ∙ number_takes c.args.text.now c.loop-x.value c.loop-x.x-index (omega arith) c.in_ok-digit_of.field-0 (sym c.digit_of.ensures ∙ c.in_ok-digit_of.was) (omega arith) ∙ c.loop-x.invariant
 
 pub returns : goal.returns
-returns c = number_end c.args.text.now c.loop-i.value c.loop-i.i (omega arith) ∙ c.loop-i.invariant.rest
+returns c = number_end c.args.text.now c.loop-x.value c.loop-x.x-index (omega arith) ∙ c.loop-x.invariant

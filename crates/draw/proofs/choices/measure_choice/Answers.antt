@@ -6,13 +6,14 @@ use Rattle.random.specs.Sequences.{draw_residues}
 use Rattle.random.proofs.Sequences.{then_used, then_short}
 use Rattle.draw.proofs.choices.measure_choice.Goals as goal
 
-pub returns-in-RanOut : goal.returns-in-RanOut
+pub returns-in_err-p : goal.returns-in_err-p
 unfolding draw_choice
-returns-in-RanOut c = let g = c.args in
-    then_short (draw_residues g.n g.random.now g.at) (draw_permutation g.n g.random.now) (sym c.in-RanOut.is ∙ c.measure_below.ensures)
+returns-in_err-p c = let g = c.args in
+    c.from_residual.ensures
+    ∙ then_short (draw_residues g.n g.random.now g.at) (draw_permutation g.n g.random.now) (sym c.in_err-p.was ∙ c.measure_below.ensures)
 
-pub returns-in-To : goal.returns-in-To
+pub returns : goal.returns
 unfolding draw_choice
-returns-in-To c = let g = c.args in
+returns c = let g = c.args in
     c.measure_permutation.ensures
-    ∙ then_used (draw_residues g.n g.random.now g.at) (draw_permutation g.n g.random.now) _ (sym c.in-To.is ∙ c.measure_below.ensures)
+    ∙ then_used (draw_residues g.n g.random.now g.at) (draw_permutation g.n g.random.now) _ (sym c.in_ok-p.was ∙ c.measure_below.ensures)

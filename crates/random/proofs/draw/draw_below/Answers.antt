@@ -1,6 +1,5 @@
 -- `draw_below` meets its contract: from each place on, what is left of the bytes gives the same drawing.
 use mathlib.Core.Path.{refl, sym, ◌∙◌}
-use native.Mathlib.Omega.{arith}
 use Rattle.random.specs.Drawings.{draw_below}
 use Rattle.random.proofs.Drawings.{draw_end, draw_hit, draw_skip}
 use Rattle.random.proofs.draw.draw_below.Goals as goal
@@ -8,9 +7,6 @@ use Rattle.random.proofs.draw.draw_below.Goals as goal
 pub loop-i-init : goal.loop-i-init
 unfolding draw_below
 loop-i-init c = refl
-
-pub overflow_cast-x : goal.overflow_cast-x
-overflow_cast-x c = omega (arith, c.type_inv.random c.loop-i.i)
 
 pub loop-i-preserved : goal.loop-i-preserved
 loop-i-preserved c = sym (draw_skip _ _ _ c.if-random-i.false c.if-x-limit.false) ∙ c.loop-i.invariant

@@ -1,12 +1,6 @@
 -- `shuffle_front` meets its contract: after each turn the list over the front of the output goes on to the whole drawing.
-use mathlib.Core.Path.{◌≡◌}
-use Prim.Native.Nat.{◌≤◌}
-use lib.ListN.{length}
 use Rattle.random.proofs.Drawings.{Shuffling}
 use Rattle.random.proofs.draw.shuffle_front.Given as goal
 
 abbrev pub invariant-loop-i : goal.invariant-loop-i
-invariant-loop-i l = (l.i ≤ l.n) × (length l.out ≡ length l.initial.out) × Shuffling l.n l.random l.at l.initial.out l.out l.p l.i
-
-abbrev pub decreases-loop-i : goal.decreases-loop-i
-decreases-loop-i l = l.i
+invariant-loop-i l = Shuffling l.n l.random l.at l.initial.out l.out l.p l.i

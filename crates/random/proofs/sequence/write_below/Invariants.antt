@@ -1,11 +1,7 @@
--- `write_below` meets its contract: the first j of them stand over the front.
-use Prim.Native.Nat.{◌-◌, ◌≤◌}
+-- `write_below` meets its contract: those that are drawn stand over the front.
 use Rattle.random.specs.Sequences.{one_below}
 use Rattle.random.proofs.Sequences.{Written}
 use Rattle.random.proofs.sequence.write_below.Given as goal
 
-abbrev pub invariant-loop-j : goal.invariant-loop-j
-invariant-loop-j l = (l.j ≤ l.n) × Written (one_below l.limit l.random) l.at l.initial.out l.out l.j l.p
-
-abbrev pub decreases-loop-j : goal.decreases-loop-j
-decreases-loop-j l = l.n - l.j
+abbrev pub invariant-loop-place : goal.invariant-loop-place
+invariant-loop-place l = Written (one_below l.limit l.random) l.at l.initial.place-items l.place-items l.place-index l.p

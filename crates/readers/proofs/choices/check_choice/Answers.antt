@@ -1,9 +1,10 @@
 -- `check_choice` meets its contract: R, then σ.
-use mathlib.Core.Path.{◌≡◌, sym}
+use mathlib.Core.Path.{◌≡◌, sym, ap, ◌∙◌}
 use Prim.Native.Nat.{◌+◌, ◌-◌}
 use native.Mathlib.Omega.{arith}
 use lib.Seq.{length-take-le}
-use Rattle.refusals.proofs.Chain.{goes_on, stops}
+use Rattle.refusals.specs.Told.{means}
+use Rattle.refusals.proofs.Chain.{goes_on, stops, handed_on}
 use Rattle.readers.specs.Choosing.{vector_of, permutation_of, choice_check}
 use Rattle.readers.proofs.choices.check_choice.Goals as goal
 
@@ -14,13 +15,13 @@ pub check_values-requires : goal.check_values-requires
 check_values-requires c = let g = c.args in
     omega (arith, length-take-le g.n g.choice.now (omega arith))
 
-pub returns-in-Refused : goal.returns-in-Refused
+pub returns-in_err-check_values : goal.returns-in_err-check_values
 unfolding choice_check vector_of
-returns-in-Refused c = stops _ c.check_values.ensures c.in-Refused.is
+returns-in_err-check_values c = ap means (handed_on c.from_residual.ensures) ∙ stops _ c.check_values.ensures c.in_err-check_values.was
 
 pub returns : goal.returns
 unfolding choice_check vector_of permutation_of
 returns c = let g = c.args in
     let e : g.n + g.n - g.n ≡ g.n = omega arith in
-    goes_on c.check_values.ensures c.in_default.is
+    goes_on c.check_values.ensures c.in_ok-check_values.was
     (rw e at c.check_permutations.ensures)

@@ -7,16 +7,15 @@ use lib.Seq.{paste-zero, paste-suc}
 use Rattle.sha256.proofs.bytes.lay.Goals as goal
 
 pub loop-j-init : goal.loop-j-init
-loop-j-init c = (omega arith, refl, paste-zero c.args.buffer.now c.args.at c.args.part.now)
+loop-j-init c = (refl, paste-zero c.args.buffer.now c.args.at c.args.part.now)
 
 pub loop-j-preserved : goal.loop-j-preserved
 loop-j-preserved c = let g = c.args in
     let j = c.loop-j.j in (
-      omega arith,
-      simp length-set c.loop-j.invariant.1,
-      rw (add-one, c.loop-j.invariant.2) (paste-suc g.buffer.now g.at g.part.now j 0 (omega arith) (omega arith)),
+      simp length-set c.loop-j.invariant.0,
+      rw (add-one, c.loop-j.invariant.1) (paste-suc g.buffer.now g.at g.part.now j 0 (omega arith) (omega arith)),
     )
 
 pub returns : goal.returns
 returns c = let e : c.loop-j.j ≡ length c.args.part.now = omega arith in
-    rw (← e) c.loop-j.invariant.2
+    rw (← e) c.loop-j.invariant.1

@@ -1,29 +1,24 @@
--- `blocks` goes on from the hash value of whole blocks: after i bytes, a multiple of 64, it has that of the message and those.
-use mathlib.Core.List.{◌++◌, append-nil, append_assoc}
-use mathlib.Core.Path.{◌≡◌}
-use Prim.Native.Nat.{◌+◌, ◌-◌}
-use native.Mathlib.Omega.{arith}
-use lib.ListN.{length, take, drop, length-drop}
-use lib.Seq.{take-add, take-length, length-take-le}
+-- `blocks` goes on from the hash value of whole blocks: after the blocks `done` of the part it has that of the message and those.
+use Rattle.std.proofs.Common.{◌≡◌, ◌++◌, ◌∙◌, length, arith, rules, sym, ap, append_assoc, length-append}
 use Rattle.sha256.proofs.Absorbing.{chained_more}
 use Rattle.sha256.proofs.stream.blocks.Goals as goal
 
-pub loop-i-init : goal.loop-i-init
-loop-i-init c = (omega arith, omega arith, λ m k. rw (append-nil m) k)
-
-pub loop-i-preserved : goal.loop-i-preserved
-loop-i-preserved c = let p = c.args.part.now in
-    let i = c.loop-i.i in
-    let e : i + 64 - i ≡ 64 = omega arith in
-    let size : length (take 64 (drop i p)) ≡ 64 = length-take-le 64 (drop i p) (rw length-drop (omega arith)) in (
-      omega arith,
-      omega arith,
-      λ m k.
-          rw (take-add i 64 p, ← append_assoc m (take i p) (take 64 (drop i p)), c.compress-v.ensures, e)
-          (chained_more c.loop-i.v (m ++ take i p) (take 64 (drop i p)) (c.loop-i.invariant.2 m k) size),
+pub loop-block-preserved : goal.loop-block-preserved
+loop-block-preserved c =
+    let block = c.in-Some.block.now in
+    let steps = c.in-Some.ensures.steps in
+    let size : length block ≡ 64 = steps.1.1 ∙ c.loop-block.invariant.2 in
+    let so_far = c.loop-block.invariant.3 in
+    let done = so_far.0 in (
+      search rules,
+      tt,
+      steps.0 ∙ c.loop-block.invariant.2,
+      (
+        done ++ block,
+        so_far.1 ∙ ap (λ l. done ++ l) steps.1.0 ∙ sym (append_assoc done block _),
+        rw (length-append done block) (omega (arith, so_far.2)),
+        λ m k.
+            rw (← append_assoc m done block, c.compress-v.ensures)
+            (chained_more c.loop-block.v (m ++ done) block (so_far.3 m k) size),
+      ),
     )
-
-pub returns : goal.returns
-returns c = let p = c.args.part.now in
-    let e : c.loop-i.i ≡ length p = omega arith in
-    λ m k. rw (e, take-length p) at (c.loop-i.invariant.2 m k)

@@ -1,13 +1,13 @@
--- `blocks` goes on from the hash value of whole blocks: after i bytes, a multiple of 64, it has that of the message and those.
-use mathlib.Core.List.{List, ◌++◌}
-use mathlib.Core.Path.{◌≡◌}
-use Prim.Native.Nat.{ℕ, ◌-◌, ◌%◌, ◌≤◌}
-use lib.ListN.{length, take}
+-- `blocks` goes on from the hash value of whole blocks: after the blocks `done` of the part it has that of the message and those.
+use Rattle.std.proofs.Common.{◌≡◌, ℕ, List, ◌++◌, ◌%◌, length}
+use Rattle.std.specs.Slice.Iter.{chunks_exact_rest, chunks_exact_size}
 use Rattle.sha256.specs.Absorbed.{Chained}
 use Rattle.sha256.proofs.stream.blocks.Given as goal
 
-abbrev pub invariant-loop-i : goal.invariant-loop-i
-invariant-loop-i l = (l.i ≤ length l.part) × (l.i % 64 ≡ 0) × ((m : List ℕ) → Chained l.initial.v m → Chained l.v (m ++ take l.i l.part))
-
-abbrev pub decreases-loop-i : goal.decreases-loop-i
-decreases-loop-i l = length l.part - l.i
+abbrev pub invariant-loop-block : goal.invariant-loop-block
+invariant-loop-block l =
+    goal.iterator-loop-block.can_next l.block-iterator
+    × goal.iterator-loop-block.is_finite l.block-iterator
+    × (chunks_exact_size l.block-iterator ≡ 64)
+    × ((done : List ℕ) × (l.part ≡ done ++ chunks_exact_rest l.block-iterator) × (length done % 64 ≡ 0)
+    × ((m : List ℕ) → Chained l.initial.v m → Chained l.v (m ++ done)))

@@ -9,10 +9,6 @@ use Rattle.sha256.proofs.Absorbing.{waited}
 use Rattle.sha256.proofs.Laid.{laid}
 use Rattle.sha256.proofs.stream.wait.Goals as goal
 
-pub lay-requires : goal.lay-requires
-lay-requires c = let size : length c.args.s.buffer ≡ 64 = search rules in
-    omega arith
-
 pub returns : goal.returns
 returns c = let g = c.args in
     let size : length g.s.buffer ≡ 64 = search rules in

@@ -9,4 +9,4 @@ use Rattle.signon.proofs.ForC.{draw_for_c}
 use Rattle.signon.proofs.drawing.signon_draw_choices.Goals as goal
 
 pub returns : goal.returns
-returns c = draw_for_c _ _ _ _ _ _ _ _ (demand-most DRAW (choices_fit most_rounds c.args.n c.args.rounds) SHAPE NONE 0 (omega arith) (omega arith)) c.of_drawing.ensures c.draw_choices.ensures
+returns c = draw_for_c _ _ _ _ _ _ _ _ (demand-most DRAW (choices_fit most_rounds c.args.n c.args.rounds) SHAPE NONE 0 (omega arith) (omega arith)) c.of_count.ensures c.draw_choices.ensures

@@ -8,4 +8,4 @@ use Rattle.signon.proofs.ForC.{draw_for_c}
 use Rattle.signon.proofs.drawing.signon_draw_permutation.Goals as goal
 
 pub returns : goal.returns
-returns c = draw_for_c _ _ _ _ _ _ _ _ (demand-most DRAW (within alone.places c.args.n) SHAPE NONE 0 (omega arith) (omega arith)) c.of_drawing.ensures c.draw_permutation.ensures
+returns c = draw_for_c _ _ _ _ _ _ _ _ (demand-most DRAW (within alone.places c.args.n) SHAPE NONE 0 (omega arith) (omega arith)) c.of_count.ensures c.draw_permutation.ensures

@@ -7,4 +7,4 @@ use Rattle.signon.proofs.ForC.{draw_for_c}
 use Rattle.signon.proofs.keys.signon_make_key.Goals as goal
 
 pub returns : goal.returns
-returns c = draw_for_c _ _ _ _ _ _ _ _ (most-more PERM DRAW _ (omega arith) (reading-most _ _ _)) c.of_drawing.ensures c.make_key.ensures
+returns c = draw_for_c _ _ _ _ _ _ _ _ (most-more PERM DRAW _ (omega arith) (reading-most _ _ _)) c.of_count.ensures c.make_key.ensures

@@ -4,4 +4,4 @@ use Rattle.card_for_c.specs.Answers.{answer_of}
 use Rattle.signon.proofs.verdict.signon_verdict.Goals as goal
 
 pub returns : goal.returns
-returns c = c.of_verdict.ensures ∙ ap answer_of c.verdict.ensures.says
+returns c = c.of_count.ensures ∙ ap answer_of c.verdict.ensures.says

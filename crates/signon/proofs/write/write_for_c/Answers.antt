@@ -3,4 +3,4 @@ use Rattle.signon.proofs.ForC.{write_for_c}
 use Rattle.signon.proofs.write.write_for_c.Goals as goal
 
 pub returns : goal.returns
-returns c = write_for_c _ _ _ _ _ _ _ _ c.of_writing.ensures c.write_frame.ensures
+returns c = write_for_c _ _ _ _ _ _ _ _ c.of_count.ensures c.write_frame.ensures

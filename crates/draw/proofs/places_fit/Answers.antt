@@ -1,5 +1,0 @@
--- `places_fit` meets its contract: the limits are those of a frame alone.
-use Rattle.draw.proofs.places_fit.Goals as goal
-
-pub returns : goal.returns
-returns c = rw c.alone.ensures at c.within.ensures

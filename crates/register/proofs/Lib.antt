@@ -1,0 +1,2 @@
+-- The laws of the grades.
+pub mod Grades

@@ -1,0 +1,2 @@
+-- The grades.
+pub mod Grades

@@ -1,0 +1,2 @@
+-- What the structs of the code stand for.
+pub mod Parts

@@ -1,8 +1,0 @@
--- `bytes_of_word` gives the four bytes of a word; the lowest needs no shift, as x / 1 is x.
-use native.Mathlib.Nat.{div-one}
-use Rattle.sha256.specs.Standard.{bytes}
-use Rattle.sha256.proofs.bytes.bytes_of_word.Goals as goal
-
-pub returns : goal.returns
-unfolding bytes
-returns c = simp div-one
