@@ -159,7 +159,7 @@ def edits_wrong(text):
     yield from (f"leaves out {crate} `{edit}` of {folder}/" for crate, edit, folder in sorted(kept - {*named}))
     times = Counter(call for *_, calls in in_tables for call in calls)
     yield from (f"has {times[call]} edits for the call {call}" for call in CALLS if times[call] < 2)
-    yield from (f"no call {call}" for call in times if call not in [*CALLS, "all"])
+    yield from (f"no call {call}" for call in times if call not in [*CALLS, "all", "the desk"])
 
 
 def faults_of_docs(known):

@@ -1,4 +1,4 @@
-"""Holds the header to C, to C++, to document 01's numbers and to the archive's symbols."""
+"""Holds the header to C, to C++, to document 01's numbers and to the archive's symbols, and the archive to the functions that it may call."""
 import re
 
 from host import C11, C_BINDING, HEADER, HERE, STRICT, Failed, archive, run
@@ -14,6 +14,9 @@ CALLS = {
 }
 """Every public call, by its name in C."""
 
+ASKED = {"memcpy", "memset"}
+"""The functions that the archive calls and its host has."""
+
 
 def declared():
     """The functions that the header declares, comments left out."""
@@ -27,6 +30,12 @@ def exported():
     return {line.split()[-1] for line in lines if len(line.split()) == 3}
 
 
+def asked():
+    """The symbols that the archive leaves to a linker."""
+    lines = run(["nm", "-u", archive()]).splitlines()
+    return {line.split()[-1] for line in lines if line.split()[:1] == ["U"]}
+
+
 def compare(what, names):
     if names != CALLS:
         raise Failed(f"{what}: missing {sorted(CALLS - names)}, not expected {sorted(names - CALLS)}")
@@ -37,4 +46,6 @@ def check():
         run([*compiler, *STRICT, f"-I{C_BINDING}", "-fsyntax-only", HERE / "header.c"])
     compare("the header", declared())
     compare("the archive", exported())
-    return f"{len(CALLS)} functions, declared and exported; fit for C11, C++11 and C++17"
+    if asked() != ASKED:
+        raise Failed(f"the archive calls {sorted(asked())}, and not {sorted(ASKED)}")
+    return f"{len(CALLS)} functions, declared and exported, that call {sorted(ASKED)} alone; fit for C11, C++11 and C++17"

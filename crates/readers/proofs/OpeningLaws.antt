@@ -34,8 +34,8 @@ module _ (s : List ℕ) (a b start : ℕ) (e : done (a ∷ b ∷ start ∷ []) �
   start-read = sym (ap (λ (l : List ℕ). get_or l 2 0) told.1)
 
   -- where round k ends, of which there are b
-  pub opening_ends : (k : ℕ) → k < b → (k ≤ 64) × (k * a + a ≤ 4096) × (start + k * a + a ≤ length s)
-  opening_ends k l =
+  pub round_ends : (k : ℕ) → k < b → (k ≤ 64) × (k * a + a ≤ 4096) × (start + k * a + a ≤ length s)
+  round_ends k l =
       let h = told.0.form in
       let N = second_of Openings s in
       let t = numbers-small Openings (first_of s) N h.numbers in
@@ -68,13 +68,6 @@ module _ (s : List ℕ) (round : ℕ) where
       let p = first_done (reading Openings alone s) (demand t SHAPE NONE 0) v e in
       ((reading-told Openings alone s p.0.0 p.0.1).0.form, ltb-true _ _ (demand_done t SHAPE NONE 0 v p.1))
 
-  -- and its frame was read
-  pub opening-read : (v : List ℕ) → opening_check s round ≡ done v → done (first_of s ∷ second_of Openings s ∷ 6 ∷ []) ≡ reading Openings alone s
-  unfolding opening_check
-  opening-read v e =
-      let p = first_done (reading Openings alone s) (demand (ltb round (second_of Openings s)) SHAPE NONE 0) v e in
-      ap done (reading-told Openings alone s p.0.0 p.0.1).1 ∙ sym p.0.1
-
   -- the stretch as the code cuts it, n being the first number
   pub opening-cut : (n start : ℕ) → n ≡ first_of s → start ≡ 6 → fine ≡ opening_check s round
       → take (start + round * n + n - (start + round * n)) (drop (start + round * n) s) ≡ opening_of s round
@@ -82,3 +75,15 @@ module _ (s : List ℕ) (round : ℕ) where
   opening-cut n start e d q =
       let z : start + round * n + n - (start + round * n) ≡ n = omega arith in
       rw (← q, z, d, drop-drop (round * first_of s) 6 s, e)
+
+-- where it ends
+pub opening_ends : (s : List ℕ) (round n : ℕ) → n ≡ first_of s → Shaped Openings alone s → round < second_of Openings s
+    → (round ≤ 64) × (round * n + n ≤ 4096) × (6 + round * n + n ≤ length s)
+opening_ends s round n e h l =
+    let N = second_of Openings s in
+    let t = numbers-small Openings (first_of s) N h.numbers in
+    let m = size_small Openings (first_of s) N t.0 t.1 in
+    let w = h.whole in
+    let f = stretch-fits n round N l in
+    let q : N * n ≡ first_of s * N = mul_comm N n ∙ ap (λ (z : ℕ). z * N) e in
+    (omega arith, omega arith, omega arith)

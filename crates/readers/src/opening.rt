@@ -8,7 +8,7 @@ use kinds::Kind;
 use refusals::{Buffer, Reason, Refusal, refuse};
 
 // The permutation of the round, as that stretch of the frame; else the frame's own refusals, and then a round that it does not have.
-pub fn opening(frame: &[u8], round: usize) -> Result<&[u8], Refusal>
+pub fn read_opening(frame: &[u8], round: usize) -> Result<&[u8], Refusal>
     ensures told { outcome (λ part. []) result ≡ opening_check frame.now round }
     ensures part { IfOk result (λ part. part.now ≡ opening_of frame.now round) }
 {
@@ -25,6 +25,16 @@ pub fn opening(frame: &[u8], round: usize) -> Result<&[u8], Refusal>
 pub fn check_opening(frame: &[u8], round: usize) -> Result<(), Refusal>
     ensures { means result ≡ opening_check frame.now round }
 {
-    opening(frame, round)?;
+    read_opening(frame, round)?;
     Ok(())
+}
+
+// The permutation of the round, as that stretch of the frame; nothing where check_opening refuses.
+pub fn opening(frame: &[u8], round: usize) -> &[u8]
+    ensures { result.now ≡ opening_of frame.now round }
+{
+    match read_opening(frame, round) {
+        Ok(part) => part,
+        Err(_) => &[],
+    }
 }

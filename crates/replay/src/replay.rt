@@ -6,7 +6,7 @@ use hosting::bytes::lay;
 use hosting::text::{say, say_number};
 use key_making::make_key;
 use kinds::{AFTER_TWO, Kind};
-use readers::opening::opening;
+use readers::opening::{check_opening, opening};
 use readers::read;
 use refusals::Refusal;
 use replay_cases::case::{Call, buffer_of, call_number, number_of};
@@ -26,9 +26,8 @@ fn replay_write(kind: Kind, case: &[u8], out: &mut [u8]) {
 }
 
 fn replay_opening(frame: &[u8], round: usize) {
-    let part = opening(frame, round);
-    tell(part.map(|_| ()));
-    tell_bytes(part.unwrap_or(&[]));
+    tell(check_opening(frame, round));
+    tell_bytes(opening(frame, round));
 }
 
 fn replay_hash(message: &[u8]) {

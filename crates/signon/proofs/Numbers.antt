@@ -13,7 +13,7 @@ use Rattle.kinds.specs.declared.Kind.TheVariants.{Openings}
 use Rattle.kinds.specs.Kinds.{alone, table}
 use Rattle.frames.specs.Reading.{first_of, second_of, Reads, opening_check}
 use Rattle.frames.proofs.Facts.{reading-told}
-use Rattle.readers.proofs.OpeningLaws.{opening-told, opening-read, opening_ends}
+use Rattle.readers.proofs.OpeningLaws.{opening-told, opening_ends}
 use Rattle.signon.specs.Calls.{opening_told}
 use Rattle.signon.proofs.Holding.{numbers-read}
 
@@ -30,8 +30,9 @@ frame-numbers k s f m =
 module _ (s : List ℕ) (round : ℕ) where
   pub place-fits : (n : ℕ) → n ≡ first_of s → opening_check s round ≡ fine → (round * n ≤ 4096) × (6 ≤ length s)
   place-fits n e q =
-      let f = opening_ends s (first_of s) (second_of Openings s) 6 (opening-read s round [] q) round (opening-told s round [] q).1 in
-      rw e (omega arith, omega arith)
+      let p = opening-told s round [] q in
+      let f = opening_ends s round n e p.0 p.1 in
+      (omega arith, omega arith)
 
   pub place-told : (start n : ℕ) → start ≡ (table Openings).start → n ≡ first_of s → opening_check s round ≡ fine → done ((start + round * n) ∷ []) ≡ opening_told s round
   unfolding opening_told
