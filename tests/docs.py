@@ -115,9 +115,9 @@ def said_by_hand(text):
 
 
 def documents():
-    """The documents and their lines, but for docs/PORT.md and docs/DESIGN-PASS.md, which name what is gone."""
+    """The documents and their lines, but for docs/PORT.md, docs/DESIGN-PASS.md and docs/LOOK-BACK.md, which name what is gone."""
     for path in [ROOT / "README.md", *sorted(ROOT.glob("docs/*.md")), *sorted(ROOT.glob("*/README.md")), *sorted(ROOT.glob("*/*/README.md"))]:
-        if path.name not in ("PORT.md", "DESIGN-PASS.md"):
+        if path.name not in ("PORT.md", "DESIGN-PASS.md", "LOOK-BACK.md"):
             yield path.relative_to(ROOT), read(path).splitlines()
 
 
@@ -159,7 +159,7 @@ def edits_wrong(text):
     yield from (f"leaves out {crate} `{edit}` of {folder}/" for crate, edit, folder in sorted(kept - {*named}))
     times = Counter(call for *_, calls in in_tables for call in calls)
     yield from (f"has {times[call]} edits for the call {call}" for call in CALLS if times[call] < 2)
-    yield from (f"no call {call}" for call in times if call not in [*CALLS, "all", "the desk"])
+    yield from (f"no call {call}" for call in times if call not in [*CALLS, "all", "the desk", "the replay"])
 
 
 def faults_of_docs(known):

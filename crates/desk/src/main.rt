@@ -5,7 +5,7 @@ use desk_arguments::command::{Command, command_named, is_unknown};
 use desk_arguments::help::help;
 use desk_arguments::take_in::{take_in, tell};
 use desk_files::argument::fail;
-use desk_files::slots::{FILE_MOST, Slots};
+use desk_files::slots::{FILE_MOST, Lent, Slots};
 use frame_words::show;
 use refusals::Buffer;
 use std::rt::{Env, Files};
@@ -13,7 +13,13 @@ use std::rt::{Env, Files};
 // The argument that names the command.
 const NAME_AT: usize = 1;
 
-fn run<R: Env + Files>(rt: &R, command: Command, lent: &Slots, room: &mut [u8], out: &mut [u8]) {
+fn run<R: Env + Files>(
+    rt: &R,
+    command: Command,
+    lent: &impl Lent,
+    room: &mut [u8],
+    out: &mut [u8],
+) {
     match command {
         Command::System => desk_commands::new_system::system(rt, lent, room, out),
         Command::Key => desk_commands::new_key::key(rt, lent, out),

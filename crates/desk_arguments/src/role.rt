@@ -1,4 +1,6 @@
 // What a command takes.
+ghost use Rattle.std.specs.Prelude.{◌≤◌, length};
+
 use crate::command::Command;
 use refusals::Buffer;
 
@@ -20,8 +22,10 @@ pub enum Role {
     Output,
 }
 
-// The arguments of a command, in order.
-pub fn roles(command: Command) -> &'static [Role] {
+// The arguments of a command, in order: eight at the most.
+pub fn roles(command: Command) -> &'static [Role]
+    ensures { length result.now ≤ 8 }
+{
     match command {
         Command::System => &[Role::Number, Role::Number, Role::Random, Role::Output],
         Command::Key => &[

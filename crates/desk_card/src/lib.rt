@@ -11,7 +11,7 @@ use card_rules::session::Session;
 use card_steps::Step;
 use desk_files::argument::number;
 use desk_files::save::{Output, save_all};
-use desk_files::slots::Slots;
+use desk_files::slots::Lent;
 use desk_outcomes::refuse;
 use hosting::bytes::{front, lay};
 use hosting::text::say;
@@ -31,7 +31,7 @@ const OUT_AT: usize = 8;
 // The choices of give-up.
 const GIVEN_UP_AT: usize = 3;
 
-fn keys_in(lent: &Slots) -> Keys {
+fn keys_in(lent: &impl Lent) -> Keys {
     Keys {
         system: lent.file(Buffer::System),
         public: lent.file(Buffer::Public),
@@ -40,14 +40,14 @@ fn keys_in(lent: &Slots) -> Keys {
 }
 
 // SYSTEM PUBLIC SECRET
-pub fn check(lent: &Slots) {
+pub fn check(lent: &impl Lent) {
     match check_key(&keys_in(lent)) {
         Err(x) => refuse(x, lent),
         Ok(()) => say(b"done\n"),
     }
 }
 
-fn session_in(lent: &Slots) -> Session {
+fn session_in(lent: &impl Lent) -> Session {
     session_of(lent.file(Buffer::NoBuffer))
 }
 
@@ -60,7 +60,13 @@ fn keep<R: Env + Files>(rt: &R, next: Session, choices: Option<Output>, out: Opt
     save_all(rt, &[choices, Some(record), out]);
 }
 
-fn finish<R: Env + Files>(rt: &R, step: Step, lent: &Slots, choices: Option<Output>, out: &[u8]) {
+fn finish<R: Env + Files>(
+    rt: &R,
+    step: Step,
+    lent: &impl Lent,
+    choices: Option<Output>,
+    out: &[u8],
+) {
     match step.told {
         Err(x) => refuse(x, lent),
         Ok(count) => {
@@ -74,7 +80,7 @@ fn finish<R: Env + Files>(rt: &R, step: Step, lent: &Slots, choices: Option<Outp
 }
 
 // RECORD ROUNDS SYSTEM PUBLIC SECRET CHOICES OUT
-pub fn begin<R: Env + Files>(rt: &R, lent: &Slots, out: &mut [u8]) {
+pub fn begin<R: Env + Files>(rt: &R, lent: &impl Lent, out: &mut [u8]) {
     let step = begin_step(
         session_in(lent),
         number(rt, ROUNDS_AT),
@@ -86,7 +92,7 @@ pub fn begin<R: Env + Files>(rt: &R, lent: &Slots, out: &mut [u8]) {
 }
 
 // RECORD SYSTEM PUBLIC SECRET CHALLENGES CHOICES OUT
-pub fn answer<R: Env + Files>(rt: &R, lent: &Slots, out: &mut [u8]) {
+pub fn answer<R: Env + Files>(rt: &R, lent: &impl Lent, out: &mut [u8]) {
     let step = answer_step(
         session_in(lent),
         &keys_in(lent),
@@ -97,7 +103,7 @@ pub fn answer<R: Env + Files>(rt: &R, lent: &Slots, out: &mut [u8]) {
     finish(rt, step, lent, None, out);
 }
 
-fn open_with<R: Env + Files>(rt: &R, lent: &Slots, choices: &mut [u8], out: &mut [u8]) {
+fn open_with<R: Env + Files>(rt: &R, lent: &impl Lent, choices: &mut [u8], out: &mut [u8]) {
     let step = open_step(
         session_in(lent),
         &keys_in(lent),
@@ -113,11 +119,11 @@ fn open_with<R: Env + Files>(rt: &R, lent: &Slots, choices: &mut [u8], out: &mut
 }
 
 // RECORD SYSTEM PUBLIC SECRET BITS CHOICES OUT
-pub fn open<R: Env + Files>(rt: &R, lent: &Slots, room: &mut [u8], out: &mut [u8]) {
+pub fn open<R: Env + Files>(rt: &R, lent: &impl Lent, room: &mut [u8], out: &mut [u8]) {
     open_with(rt, lent, lay(lent.file(Buffer::Choices), room), out);
 }
 
-fn give_up_with<R: Env + Files>(rt: &R, lent: &Slots, choices: &mut [u8]) {
+fn give_up_with<R: Env + Files>(rt: &R, lent: &impl Lent, choices: &mut [u8]) {
     let next = give_up_step(session_in(lent), choices);
     let choices = Output {
         at: GIVEN_UP_AT,
@@ -127,6 +133,6 @@ fn give_up_with<R: Env + Files>(rt: &R, lent: &Slots, choices: &mut [u8]) {
 }
 
 // RECORD CHOICES
-pub fn give_up<R: Env + Files>(rt: &R, lent: &Slots, room: &mut [u8]) {
+pub fn give_up<R: Env + Files>(rt: &R, lent: &impl Lent, room: &mut [u8]) {
     give_up_with(rt, lent, lay(lent.file(Buffer::Choices), room));
 }

@@ -1,6 +1,6 @@
 // The register's verdict.
 use desk_files::argument::number;
-use desk_files::slots::Slots;
+use desk_files::slots::Lent;
 use desk_outcomes::refuse;
 use hosting::text::{say, say_with};
 use refusals::Buffer;
@@ -16,7 +16,7 @@ fn say_accepted(rounds: usize) {
 }
 
 // GRADE SYSTEM PUBLIC COMMITMENTS CHALLENGES ANSWERS BITS OPENINGS
-pub fn judge(rt: &impl Env, lent: &Slots) {
+pub fn judge(rt: &impl Env, lent: &impl Lent) {
     let x = SignOn {
         system: lent.file(Buffer::System),
         key: lent.file(Buffer::Public),

@@ -2,7 +2,7 @@
 use algebra::LONGEST;
 use desk_files::argument::number;
 use desk_files::save::save;
-use desk_files::slots::Slots;
+use desk_files::slots::Lent;
 use desk_outcomes::refuse;
 use draw::choices::draw_choices;
 use draw::messages::{draw_bits, draw_challenges};
@@ -30,7 +30,7 @@ pub fn say_used(used: usize) {
 fn keep<R: Env + Files>(
     rt: &R,
     told: Result<usize, Refusal>,
-    lent: &Slots,
+    lent: &impl Lent,
     out_at: usize,
     drawn: &[u8],
 ) {
@@ -44,13 +44,13 @@ fn keep<R: Env + Files>(
 }
 
 // ROUNDS RANDOM OUT
-pub fn challenges<R: Env + Files>(rt: &R, lent: &Slots, out: &mut [u8]) {
+pub fn challenges<R: Env + Files>(rt: &R, lent: &impl Lent, out: &mut [u8]) {
     let told = draw_challenges(number(rt, 2), lent.file(Buffer::Random), out);
     keep(rt, told, lent, 4, frame_in(out));
 }
 
 // ROUNDS RANDOM OUT
-pub fn bits<R: Env + Files>(rt: &R, lent: &Slots, out: &mut [u8]) {
+pub fn bits<R: Env + Files>(rt: &R, lent: &impl Lent, out: &mut [u8]) {
     let told = draw_bits(number(rt, 2), lent.file(Buffer::Random), out);
     keep(rt, told, lent, 4, frame_in(out));
 }
@@ -64,7 +64,7 @@ fn choices_size(n: usize, rounds: usize) -> usize {
 }
 
 // N ROUNDS RANDOM OUT
-pub fn choices<R: Env + Files>(rt: &R, lent: &Slots, out: &mut [u8]) {
+pub fn choices<R: Env + Files>(rt: &R, lent: &impl Lent, out: &mut [u8]) {
     let n = number(rt, 2);
     let rounds = number(rt, 3);
     let told = draw_choices(n, rounds, lent.file(Buffer::Random), out);

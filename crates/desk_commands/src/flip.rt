@@ -1,7 +1,7 @@
 // Flips one bit of a file, to break a message.
 use desk_files::argument::{fail, number};
 use desk_files::save::save;
-use desk_files::slots::Slots;
+use desk_files::slots::Lent;
 use hosting::bytes::lay;
 use refusals::Buffer;
 use std::rt::{Env, Files};
@@ -21,7 +21,7 @@ fn flip_bit(x: u8, k: usize) -> u8 {
 }
 
 // FILE PLACE BIT OUT
-pub fn flip<R: Env + Files>(rt: &R, lent: &Slots, out: &mut [u8]) {
+pub fn flip<R: Env + Files>(rt: &R, lent: &impl Lent, out: &mut [u8]) {
     let bytes = lay(lent.file(Buffer::NoBuffer), out);
     let place = number(rt, PLACE_AT);
     let bit = number(rt, BIT_AT);

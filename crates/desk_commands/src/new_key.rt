@@ -4,7 +4,7 @@ use desk_files::argument::fail;
 use desk_files::load::open_source;
 use desk_files::path::read_full;
 use desk_files::save::{Output, save_all};
-use desk_files::slots::Slots;
+use desk_files::slots::Lent;
 use desk_outcomes::refuse;
 use hosting::bytes::behind;
 use hosting::text::{say, say_with};
@@ -75,7 +75,7 @@ fn keep<R: Env + Files>(rt: &R, pair: &[u8]) {
     save_all(rt, &[Some(public), Some(secret)]);
 }
 
-fn key_into<R: Env + Files>(rt: &R, source: &mut R::File, lent: &Slots, out: &mut [u8]) {
+fn key_into<R: Env + Files>(rt: &R, source: &mut R::File, lent: &impl Lent, out: &mut [u8]) {
     let made = make_from(source, lent.file(Buffer::System), out);
     say_tries(made.tries);
     match made.told {
@@ -85,7 +85,7 @@ fn key_into<R: Env + Files>(rt: &R, source: &mut R::File, lent: &Slots, out: &mu
 }
 
 // SYSTEM RANDOM PUBLIC SECRET
-pub fn key<R: Env + Files>(rt: &R, lent: &Slots, out: &mut [u8]) {
+pub fn key<R: Env + Files>(rt: &R, lent: &impl Lent, out: &mut [u8]) {
     match open_source(rt, RANDOM_AT) {
         Ok(mut source) => key_into(rt, &mut source, lent, out),
         Err(e) => fail(rt, RANDOM_AT, e.words()),

@@ -2,7 +2,7 @@
 use crate::drawing::say_used;
 use algebra::MODULUS;
 use desk_files::argument::number;
-use desk_files::slots::Slots;
+use desk_files::slots::Lent;
 use desk_outcomes::keep_written;
 use kinds::{Expected, Kind};
 use random::sequence::{measure_below, write_below};
@@ -43,7 +43,7 @@ fn draw_system(
 }
 
 // N M RANDOM OUT
-pub fn system<R: Env + Files>(rt: &R, lent: &Slots, room: &mut [u8], out: &mut [u8]) {
+pub fn system<R: Env + Files>(rt: &R, lent: &impl Lent, room: &mut [u8], out: &mut [u8]) {
     let told = draw_system(
         number(rt, N_AT),
         number(rt, M_AT),

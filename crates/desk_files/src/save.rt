@@ -4,7 +4,7 @@ use crate::argument::{argument, fail, say_argument};
 use crate::fault::tell_fault;
 use crate::path::{create, open_to_update, remove, rename};
 use hosting::text::{say, say_with};
-use std::io::{ErrorKind, Write};
+use std::io::{Error, ErrorKind, Write};
 use std::rt::{Env, Files};
 
 // A file to be saved: the argument that names it, and what is to be in it.
@@ -14,11 +14,11 @@ pub struct Output<'a> {
     pub bytes: &'a [u8],
 }
 
-// Why the file that an argument names is not saved.
+// Why a file is not saved: the one that the argument names can't be written, or one can't be replaced, which has been said.
 #[derive(Clone, Copy)]
 enum SaveError {
     Unwritten(usize),
-    Unreplaced(usize),
+    Unreplaced,
 }
 
 // The path that the argument names, with .new behind it, which is put into the room; empty where it is too long.
@@ -31,14 +31,16 @@ fn new_name<'a>(rt: &impl Env, at: usize, room: &'a mut [u8]) -> &'a [u8] {
     &room[..size + 4]
 }
 
-// Makes the file and writes all of the bytes, or takes away what there is of it.
-fn write_new<R: Files>(rt: &R, path: &[u8], bytes: &[u8]) -> std::io::Result<()> {
-    let mut file = create(rt, path)?;
-    let written = file.write_all(bytes);
-    if written.is_err() {
-        let _ = remove(rt, path);
-    }
-    written
+// Says why the file can't be written, and takes away what there is of it.
+fn give_up(rt: &impl Files, path: &[u8], error: Error) {
+    tell_fault(path, error);
+    let _ = remove(rt, path);
+}
+
+// Makes the file and writes all of the bytes, or says why not.
+fn write_new<R: Files>(rt: &R, path: &[u8], bytes: &[u8]) -> Option<()> {
+    let mut file = create(rt, path).map_err(|e| tell_fault(path, e)).ok()?;
+    file.write_all(bytes).map_err(|e| give_up(rt, path, e)).ok()
 }
 
 // Whether there is no such file, or one that may be written. Devices are no files to be replaced.
@@ -62,13 +64,7 @@ impl Output<'_> {
         }
         let mut room = io::buffer();
         let name = new_name(rt, self.at, &mut room);
-        match write_new(rt, name, self.bytes) {
-            Ok(()) => Ok(()),
-            Err(e) => {
-                tell_fault(name, e);
-                Err(SaveError::Unwritten(self.at))
-            }
-        }
+        write_new(rt, name, self.bytes).ok_or(SaveError::Unwritten(self.at))
     }
 
     // Takes the new file away.
@@ -76,7 +72,7 @@ impl Output<'_> {
         let _ = remove(rt, new_name(rt, self.at, &mut io::buffer()));
     }
 
-    // Gives the new file its name.
+    // Gives the new file its name, or says that it can't.
     fn commit<R: Env + Files>(&self, rt: &R) -> Result<(), SaveError> {
         let mut name = io::buffer();
         let mut path = io::buffer();
@@ -87,7 +83,8 @@ impl Output<'_> {
         );
         if renamed.is_err() {
             self.discard(rt);
-            return Err(SaveError::Unreplaced(self.at));
+            fail(rt, self.at, b" can't be replaced");
+            return Err(SaveError::Unreplaced);
         }
         say(b"wrote ");
         say_argument(rt, self.at);
@@ -141,7 +138,7 @@ pub fn save_all<R: Env + Files>(rt: &R, outputs: &[Option<Output>]) {
     match replace_all(rt, outputs) {
         Ok(()) => say(b"done\n"),
         Err(SaveError::Unwritten(at)) => fail(rt, at, b" can't be written; no file is changed"),
-        Err(SaveError::Unreplaced(at)) => fail(rt, at, b" can't be replaced"),
+        Err(SaveError::Unreplaced) => {}
     }
 }
 

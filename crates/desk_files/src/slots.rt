@@ -43,6 +43,12 @@ impl Slot {
     }
 }
 
+// The files that a command is lent, whatever holds them and of whatever size.
+pub trait Lent {
+    // The file of a buffer; nothing where the command takes none.
+    fn file(&self, buffer: Buffer) -> &[u8];
+}
+
 // The slots of all buffers.
 #[derive(Drop)]
 pub struct Slots([Slot; SLOTS]);
@@ -52,14 +58,15 @@ impl Slots {
         Slots([Slot::zeros(0); SLOTS])
     }
 
-    // The file of a buffer; nothing where the command takes none.
-    pub fn file(&self, buffer: Buffer) -> &[u8]
+    pub fn slot_mut(&mut self, buffer: Buffer) -> &mut Slot {
+        &mut self.0[buffer as usize]
+    }
+}
+
+impl Lent for Slots {
+    fn file(&self, buffer: Buffer) -> &[u8]
         ensures { IfSome (slice_get self.now.0 (buffer_number buffer)) (λ slot. result.now ≡ take slot.size slot.bytes) }
     {
         self.0[buffer as usize].file()
-    }
-
-    pub fn slot_mut(&mut self, buffer: Buffer) -> &mut Slot {
-        &mut self.0[buffer as usize]
     }
 }

@@ -2,13 +2,13 @@
 #![tactic(auto)]
 
 use desk_files::save::save;
-use desk_files::slots::Slots;
+use desk_files::slots::Lent;
 use hosting::bytes::front;
 use refusal_words::tell_refusal;
 use refusals::Refusal;
 use std::rt::{Env, Files};
 
-pub fn refuse(x: Refusal, lent: &Slots) {
+pub fn refuse(x: Refusal, lent: &impl Lent) {
     tell_refusal(x, lent.file(x.buffer));
 }
 
@@ -16,7 +16,7 @@ pub fn refuse(x: Refusal, lent: &Slots) {
 pub fn keep_written<R: Env + Files>(
     rt: &R,
     told: Result<usize, Refusal>,
-    lent: &Slots,
+    lent: &impl Lent,
     at: usize,
     out: &[u8],
 ) {

@@ -5,7 +5,7 @@ use crate::name::{buffer_name, stage_name};
 use frames::read::count_of;
 use hosting::bytes::byte_of;
 use hosting::text::{say, say_number, say_ordinal, say_with};
-use kinds::{AFTER_ONE, Kind};
+use kinds::{AFTER_ONE, AFTER_TWO, Kind};
 use refusals::{Buffer, Reason, Refusal};
 
 // The kind of the frame in a buffer.
@@ -47,7 +47,7 @@ fn say_version(buffer: Buffer, bytes: &[u8]) {
 }
 
 fn say_kind(buffer: Buffer, bytes: &[u8]) {
-    let number = kind_of(buffer).map_or(0, |kind| kind.number());
+    let number = kind_of(buffer).map_or(buffer.number().saturating_sub(1), |kind| kind.number());
     say_with(b"kind ", usize::from(number));
     say_with(b" is called for, and ", usize::from(byte_of(bytes, 3)));
     say(b" is in the file of ");
@@ -76,9 +76,9 @@ fn say_shape(buffer: Buffer, bytes: &[u8]) {
 fn residues_at(buffer: Buffer) -> usize
     ensures { 0 < result }
 {
-    match kind_of(buffer) {
-        Some(kind) => kind.start(),
-        None => AFTER_ONE,
+    match buffer {
+        Buffer::System | Buffer::Answers => AFTER_TWO,
+        _ => AFTER_ONE,
     }
 }
 

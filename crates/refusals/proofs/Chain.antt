@@ -76,14 +76,18 @@ abbrev answering : {A : Type 0} → (List ℕ → A) → Told → Result A Refus
 answering value (done values) = Ok (value values)
 answering value (refused number buffer place) = Err (refusal_of number buffer place)
 
--- where the values that a success tells are enough to find it again, no second answer has the same meaning
+-- it is the answer itself, where the values that a success tells are enough to find it again
+pub answering-means : {A : Type 0} (values : A → List ℕ) (value : List ℕ → A) → ((x : A) → value (values x) ≡ x)
+    → (r : Result A Refusal) → answering value (outcome values r) ≡ r
+answering-means values value back (Ok x) = ap Ok (back x)
+answering-means values value back (Err r) = ap Err (refusal-told r)
+
+-- and then no second answer has the same meaning
 pub outcome_fixes : {A : Type 0} (values : A → List ℕ) (value : List ℕ → A) → ((x : A) → value (values x) ≡ x)
     → (a b : Result A Refusal) → outcome values a ≡ outcome values b → a ≡ b
-outcome_fixes {A} values value back a b e = sym (found a) ∙ ap (answering value) e ∙ found b
-  where
-    found : (r : Result A Refusal) → answering value (outcome values r) ≡ r
-    found (Ok x) = ap Ok (back x)
-    found (Err r) = ap Err (refusal-told r)
+outcome_fixes values value back a b e =
+    let found = answering-means values value back in
+    sym (found a) ∙ ap (answering value) e ∙ found b
 
 pub means_fixes : (a b : Result ⊤ Refusal) → means a ≡ means b → a ≡ b
 means_fixes = outcome_fixes (λ nothing. []) (λ values. tt) (λ nothing. refl)

@@ -2,6 +2,8 @@
 // what is to be printed, and says how both are spelt.
 #![tactic(auto)]
 
+ghost use Rattle.std.specs.Prelude.{◌≤◌, length, IfSome};
+
 use crate::replay::replay;
 use replay_cases::case::big_endian;
 
@@ -14,7 +16,9 @@ const STDIN: i32 = 0;
 const MOST_CASES: usize = 1000000;
 
 // Reads the next case into the space; None where no whole case is left, the space is too small, or the case is empty.
-fn read_case(space: &mut [u8]) -> Option<&[u8]> {
+fn read_case(space: &mut [u8]) -> Option<&[u8]>
+    ensures { IfSome result (λ case. length case.now ≤ length space.old) }
+{
     let mut heading = [0; 4];
     if io::read_full(STDIN, &mut heading) < heading.len() {
         return None;

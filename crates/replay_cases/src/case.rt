@@ -1,5 +1,7 @@
 // The parts of a case: the call's number, how many numbers the call is given, each in eight bytes, and then each buffer as four bytes of
 // length and its bytes. What a damaged case lacks is 0, or empty.
+ghost use Rattle.std.specs.Prelude.{◌≤◌, length};
+
 use hosting::bytes::{behind, byte_of};
 use kinds::Kind;
 
@@ -89,7 +91,9 @@ pub fn call_number(case: &[u8]) -> u8 {
 }
 
 // Where the numbers end, and the buffers start.
-fn numbers_end(case: &[u8]) -> usize {
+fn numbers_end(case: &[u8]) -> usize
+    ensures { result ≤ length case.now }
+{
     case.len().min(2 + 8 * usize::from(byte_of(case, 1)))
 }
 

@@ -1,7 +1,8 @@
 // SHA-256 (FIPS 180-4): the hash under every commitment.
 #![tactic(auto)]
 
-ghost use Rattle.sha256.specs.Call.{Hashes};
+ghost use Rattle.std.specs.Prelude.{◌≡◌};
+ghost use Rattle.sha256.specs.Call.{Hashes, shown};
 
 use refusals::{Buffer, Reason, Refusal, refuse};
 use stream::{absorb, finish, start};
@@ -23,4 +24,11 @@ pub fn hash(message: &[u8]) -> Result<[u8; DIGEST], Refusal>
         return refuse(Reason::Shape, Buffer::Choices, 0);
     }
     Ok(finish(absorb(start(), message)))
+}
+
+// The digest that the call answers; 32 zeros where it is refused.
+pub fn shown(told: Result<[u8; DIGEST], Refusal>) -> [u8; DIGEST]
+    ensures { result ≡ shown told }
+{
+    told.unwrap_or([0; DIGEST])
 }

@@ -7,7 +7,7 @@ ghost use Rattle.sha256.specs.Standard.{digest_of};
 
 use refusals::Refusal;
 use sha256::stream::{absorb, finish, start};
-use sha256::{DIGEST, LONGEST};
+use sha256::{DIGEST, LONGEST, shown};
 
 // The digest of a message that is absorbed in pieces of `size` bytes, the last of them the rest.
 fn pieces(message: &[u8], size: usize) -> [u8; DIGEST]
@@ -44,6 +44,6 @@ pub extern "C" fn sha256_in_pieces(message: &[u8], size: usize) -> Digest
     ensures { result.bytes ≡ shown_of (told_of message.now) message.now }
 {
     Digest {
-        bytes: in_pieces(message, size).unwrap_or([0; DIGEST]),
+        bytes: shown(in_pieces(message, size)),
     }
 }

@@ -5,7 +5,7 @@
 ghost use Rattle.std.specs.Prelude.{◌≡◌, ◌≤◌, length};
 
 use refusals::Refusal;
-use sha256::DIGEST;
+use sha256::{DIGEST, shown};
 
 fn print(text: &[u8]) {
     io::write_all(1, text);
@@ -29,11 +29,6 @@ fn print_digest(digest: [u8; DIGEST]) {
     for b in digest {
         io::print_hex(1, u64::from(b), 2);
     }
-}
-
-// The digest of what the call answers, 32 zeros where it is refused.
-fn shown(hashed: Result<[u8; DIGEST], Refusal>) -> [u8; DIGEST] {
-    hashed.unwrap_or([0; DIGEST])
 }
 
 // Whether the message has that digest in two pieces, in three, and so on to `most`, or nearly so many.

@@ -4,9 +4,11 @@ use mathlib.Core.List.{[]}
 use native.Mathlib.Omega.{arith}
 use Rattle.refusals.specs.declared.Buffer.TheVariants.{Output}
 use Rattle.refusals.specs.declared.Reason.TheVariants.{Room}
+use Rattle.random.proofs.Drawings.{enough_of}
 use Rattle.kinds.specs.Kinds.{within, alone}
 use Rattle.writers.specs.Writing.{frame}
 use Rattle.draw_rules.specs.Telling.{refusal}
+use Rattle.frames.proofs.Facts.{within-told}
 use Rattle.draw_rules.specs.Making.{draw_challenges}
 use Rattle.random.specs.Sequences.{draw_residues}
 use Rattle.draw_rules.proofs.Orders.{bad_numbers, no_room, good-numbers, runs-out, takes}
@@ -22,6 +24,12 @@ pub returns-then-out-need : goal.returns-then-out-need
 returns-then-out-need c = let g = c.args in
     let s = c.frame_size-need.ensures.0 in
     no_room _ _ _ _ _ [] (good-numbers (within alone.rounds g.rounds) (sym c.rounds_fit.ensures ∙ c.if-not-rounds_fit.false)) (omega arith) (c.refuse-then-out-need.ensures ∙ ap (refusal Room Output) s)
+
+pub write_challenges-requires : goal.write_challenges-requires
+write_challenges-requires c = let g = c.args in
+    let w = within-told alone.rounds g.rounds (sym c.rounds_fit.ensures ∙ c.if-not-rounds_fit.false) in
+    let s = c.frame_size-need.ensures.0 in
+    (enough_of (draw_residues g.rounds g.random.now 0) _ (sym c.in-Some.is ∙ c.measure_below.ensures), omega arith, omega arith)
 
 pub returns-in-None : goal.returns-in-None
 unfolding draw_challenges

@@ -29,7 +29,12 @@ pub returns-then-openings-round-clause-told : goal.returns-then-openings-round-c
 unfolding part_means
 returns-then-openings-round-clause-told c = let e = read_fine (goal.at.returns-then-openings-round-clause-told c).In_ok-openings in
     let s = c.args.frame.now in
-    ap part_means c.refuse.ensures ∙ no_round s _ _ e (rw (← second-read s _ _ _ e) c.if-openings-round.true)
+    ap part_means c.refuse.ensures ∙ no_round s _ _ e (omega (arith, second-read s _ _ _ e, c.if-openings-round.true))
+
+pub returns-clause-told : goal.returns-clause-told
+returns-clause-told c = let e = read_fine (goal.at.returns-clause-told c).In_ok-openings in
+    let s = c.args.frame.now in
+    a_round s _ _ e (omega (arith, second-read s _ _ _ e, c.if-openings-round.false))
 
 pub overflow_mul-from : goal.overflow_mul-from
 overflow_mul-from c = let e = round_ends _ _ _ _ (read_fine (goal.at.overflow_mul-from c).In_ok-openings) _ c.if-openings-round.false in omega arith
@@ -45,13 +50,8 @@ overflow_add-to c = let p = read_fine (goal.at.overflow_add-to c).In_ok-openings
 pub slice_bounds-result-end : goal.slice_bounds-result-end
 slice_bounds-result-end c = let e = round_ends _ _ _ _ (read_fine (goal.at.slice_bounds-result-end c).In_ok-openings) _ c.if-openings-round.false in omega arith
 
-pub returns-clause-told : goal.returns-clause-told
-returns-clause-told c = let e = read_fine (goal.at.returns-clause-told c).In_ok-openings in
-    let s = c.args.frame.now in
-    a_round s _ _ e (rw (← second-read s _ _ _ e) c.if-openings-round.false)
-
 pub returns-clause-part : goal.returns-clause-part
 returns-clause-part c = let e = read_fine (goal.at.returns-clause-part c).In_ok-openings in
     let s = c.args.frame.now in
     let k : c.args.round < second_of Openings s = rw (← second-read s _ _ _ e) c.if-openings-round.false in
-    opening-cut s c.args.round _ _ (first-read s _ _ _ e) (start-read s _ _ _ e) (a_round s c.args.round _ e k)
+    opening-cut s c.args.round _ _ (first-read s _ _ _ e) (omega (arith, start-read s _ _ _ e)) (a_round s c.args.round _ e k)
