@@ -20,7 +20,8 @@ use card_steps::Step;
 use kinds::{AFTER_ONE, AFTER_TWO, Kind};
 use writers::put_heading;
 
-// Writes the frame of all first answers, for which there is room.
+// Writes the frame of all first answers, for which there is room. A frame of its own on the stack: in its caller's, its rooms would lie below the checks.
+#[inline(never)]
 fn put_answers(
     v: &[u8],
     pi: &[u8],
