@@ -115,9 +115,9 @@ def said_by_hand(text):
 
 
 def documents():
-    """The documents and their lines, but for docs/PORT.md, docs/DESIGN-PASS.md and docs/LOOK-BACK.md, which name what is gone."""
+    """The documents and their lines, but for docs/PORT.md and docs/DESIGN-PASS.md, which name what is gone."""
     for path in [ROOT / "README.md", *sorted(ROOT.glob("docs/*.md")), *sorted(ROOT.glob("*/README.md")), *sorted(ROOT.glob("*/*/README.md"))]:
-        if path.name not in ("PORT.md", "DESIGN-PASS.md", "LOOK-BACK.md"):
+        if path.name not in ("PORT.md", "DESIGN-PASS.md"):
             yield path.relative_to(ROOT), read(path).splitlines()
 
 

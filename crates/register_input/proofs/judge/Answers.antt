@@ -4,7 +4,7 @@ use Rattle.register_input.proofs.judge.Goals as goal
 
 pub returns : goal.returns
 unfolding judging_input sign_on_of
-returns c = rw (
+returns c = simp (
   c.grade_and_frames-grade.ensures.0,
   c.cut.ensures.0,
   c.cut-2.ensures.0,
